@@ -1,0 +1,201 @@
+-- P1 to P10 of 01, "Known examples": one table, one test that is computed over all of it, and the law that makes it each case's statement.
+use mathlib.Core.Path.{_≡_, refl, sym, ap, ap₂, _∙_}
+use mathlib.Core.Bool.{Bool, true, false, _&&_}
+use mathlib.Core.List.{List, [], _∷_, map}
+use Prim.Native.Nat.{ℕ, zero, suc, _<_}
+use Prim.Native.String.{String}
+use native.Mathlib.Omega.{arith}
+use lib.Dec.{eqb}
+use lib.ListN.{length, getD}
+use borrow.Author.Tests.{eqb-true}
+use Rattle.sets.specs.Sets.{flip, statesFrom}
+use Rattle.sets.proofs.Every.{and-first, and-second}
+use Rattle.rules.specs.Text.{bytes, same, digit, one, plus, dash, setOf}
+use Rattle.rules.specs.Lines.{headLine}
+use Rattle.rules.specs.Requirements.{groupAsks, metByCode}
+use Rattle.rules.specs.Looks.{looksAt}
+use Rattle.rules.specs.Cover.{face, faceAt}
+use Rattle.rules.specs.Answers.{reportReply, coverReply, printed}
+use Rattle.rules.specs.declared.Head.{Head}
+use Rattle.rules.specs.declared.Requirement.{Requirement}
+use Rattle.rules.specs.declared.HeadLine.{HeadLine}
+
+-- ---- codes and requirements as 01 writes them
+
+-- the bits of some states' codes, first bit leftmost
+unfoldable pub bitsIn : ℕ → ℕ → List (List ℕ) → List ℕ
+unfolding setOf
+bitsIn k zero codes = []
+bitsIn k (suc w) codes = setOf one (map (λ c. getD c k 0) codes) ∷ bitsIn (suc k) w codes
+
+abbrev pub bitsOf : List String → List ℕ
+unfolding bitsIn
+bitsOf codes = let cs = map bytes codes in bitsIn 0 (length (getD cs 0 [])) cs
+
+-- `+` for the first block and `-` for the second
+abbrev pub asked : String → Requirement
+unfolding setOf
+asked s = record { first = setOf plus (bytes s); second = setOf dash (bytes s) }
+
+unfoldable pub allMet : ℕ → List ℕ → List Requirement → Bool
+unfolding metByCode
+allMet n bits [] = true
+allMet n bits (r ∷ rs) = metByCode n bits r && allMet n bits rs
+
+-- which of a run's moves look at r
+unfoldable pub looksOf : ℕ → Requirement → ℕ → List ℕ → List ℕ
+unfolding looksAt
+looksOf n r b [] = []
+looksOf n r b (s ∷ ss) = digit (looksAt n r b s) ∷ looksOf n r (flip b s) ss
+
+-- ---- the table
+
+pub data Case : Type 0 where
+  -- the report, and the cover, that are printed for a listing
+  reports : String → String → Case
+  covers : String → String → Case
+  -- a first line, and the numbers read
+  reads : String → Head → Case
+  -- some states' codes, a group as in `PT`, and its face; all that the group asks is met
+  faces : List String → String → String → Case
+  -- some states' codes, and a requirement as in `DI` that they meet
+  meets : List String → String → Case
+  -- a bit that is all 0, a requirement as in `DI`, the states moved, and which moves look at it
+  looked : String → List ℕ → List ℕ → Case
+
+p1 : String
+p1 = "MC 3 1 1 0\nPT 0 110 001 1\nPT 1 101 100 0\nEN\n"
+
+p2 : String
+p2 = "MC 3 1 1 1\nPT 0 110 001 1\nPT 1 101 100 0\nEN\n"
+
+p3 : String
+p3 = "MC 1 1 1 0\nPT 0 1 1 1\nEN\n"
+
+p4 : String
+p4 = "MC 2 1 1 0\nEN\n"
+
+p5 : List String
+p5 = "001" ∷ "111" ∷ "101" ∷ "100" ∷ []
+
+p6 : List String
+p6 = "010" ∷ "110" ∷ "101" ∷ "000" ∷ "001" ∷ "011" ∷ "100" ∷ []
+
+p7 : List String
+p7 = "100" ∷ "101" ∷ "010" ∷ "111" ∷ []
+
+p9 : String
+p9 = "MC 3 1 1 0\nPT 0 110 100 1\nPT - 010 001 1\nEN\n"
+
+pub cases : List Case
+unfolding p1 p2 p3 p4 p5 p6 p7 p9
+cases =
+    reports p1 "CT 2 5 0 2 17\nSC 0 00\nSC 1 10\nSC 2 01\nEN\n"
+    ∷ covers p1 ".i 3\n.o 3\n.p 2\n0-0 011\n10- 000\n.e\n"
+    ∷ reports p2 "CT 1 5 2 1 12\nSC 0 0\nSC 1 1\nSC 2 0\nUN 1\nUN 3\nEN\n"
+    ∷ covers p2 "NO 9 0\n"
+    ∷ reports p3 "CT 0 0 0 0 0\nSC 0 -\nEN\n"
+    ∷ covers p3 ".i 1\n.o 1\n.p 1\n0 1\n.e\n"
+    ∷ reports p4 "CT 1 1 0 1 2\nSC 0 0\nSC 1 1\nEN\n"
+    ∷ covers p4 ".i 2\n.o 2\n.p 0\n.e\n"
+    ∷ faces p5 "1011" "-0-"
+    ∷ faces p5 "1010" "-01"
+    ∷ faces p5 "0111" "1--"
+    ∷ faces p6 "0110001" "1--"
+    ∷ faces p6 "1001000" "0-0"
+    ∷ faces p6 "0001001" "-00"
+    ∷ meets p7 "++.+"
+    ∷ meets p7 "+-+."
+    ∷ meets p7 "+.+-"
+    ∷ meets p7 "-.++"
+    ∷ meets p7 ".-++"
+    ∷ looked "+++++" (0 ∷ 1 ∷ 2 ∷ 3 ∷ 4 ∷ []) (1 ∷ 1 ∷ 0 ∷ 1 ∷ 1 ∷ [])
+    ∷ reports p9 "NO 6 3\n"
+    ∷ covers p9 "NO 6 3\n"
+    ∷ reads "MC 32 1 1 32" (record { states = 32; inputs = 1; outputs = 1; width = 32 })
+    ∷ reports "MC 33 1 1 0\n" "NO 2 1\n"
+    ∷ []
+
+-- ---- what a case states
+
+abbrev pub Holds : Case → Type 0
+Holds (reports listing text) = printed (reportReply (bytes listing)) ≡ bytes text
+Holds (covers listing text) = printed (coverReply (bytes listing)) ≡ bytes text
+Holds (reads line head) = headLine (bytes line) ≡ HeadLine.Read head
+Holds (faces codes group text) =
+    (face (length codes) (bitsOf codes) (setOf one (bytes group)) ≡ bytes text)
+    × (allMet (length codes) (bitsOf codes) (groupAsks (length codes) (setOf one (bytes group))) ≡ true)
+Holds (meets codes r) = metByCode (length codes) (bitsOf codes) (asked r) ≡ true
+Holds (looked r moves digits) = looksOf (length (bytes r)) (asked r) 0 moves ≡ digits
+
+abbrev pub AllHold : List Case → Type 0
+AllHold [] = Unit {0}
+AllHold (c ∷ cs) = Holds c × AllHold cs
+
+-- ---- the test
+
+sameHead : HeadLine → Head → Bool
+sameHead (HeadLine.Read a) b = eqb (a .states) (b .states) && eqb (a .inputs) (b .inputs) && eqb (a .outputs) (b .outputs) && eqb (a .width) (b .width)
+sameHead (HeadLine.Refused r) b = false
+
+right : Case → Bool
+unfolding same reportReply coverReply printed headLine sameHead faceAt allMet groupAsks looksOf metByCode bitsIn setOf
+right (reports listing text) = same (printed (reportReply (bytes listing))) (bytes text)
+right (covers listing text) = same (printed (coverReply (bytes listing))) (bytes text)
+right (reads line head) = sameHead (headLine (bytes line)) head
+right (faces codes group text) =
+    same (face (length codes) (bitsOf codes) (setOf one (bytes group))) (bytes text)
+    && allMet (length codes) (bitsOf codes) (groupAsks (length codes) (setOf one (bytes group)))
+right (meets codes r) = metByCode (length codes) (bitsOf codes) (asked r)
+right (looked r moves digits) = same (looksOf (length (bytes r)) (asked r) 0 moves) digits
+
+allRight : List Case → Bool
+unfolding right
+allRight [] = true
+allRight (c ∷ cs) = right c && allRight cs
+
+computed : allRight cases ≡ true
+unfolding allRight cases
+computed = refl
+
+-- ---- the law
+
+same-eq : (xs ys : List ℕ) → same xs ys ≡ true → xs ≡ ys
+unfolding same
+same-eq [] [] e = refl
+same-eq [] (y ∷ ys) e = absurd (let z : _≡_ {A = ℕ} 0 1 = cc in omega arith)
+same-eq (x ∷ xs) [] e = absurd (let z : _≡_ {A = ℕ} 0 1 = cc in omega arith)
+same-eq (x ∷ xs) (y ∷ ys) e = ap₂ (λ (a : ℕ) (l : List ℕ). a ∷ l) (eqb-true x y (and-first (eqb x y) (same xs ys) e)) (same-eq xs ys (and-second (eqb x y) (same xs ys) e))
+
+head-eq : (a : HeadLine) (b : Head) → sameHead a b ≡ true → a ≡ HeadLine.Read b
+unfolding sameHead
+head-eq (HeadLine.Read a) b e =
+    let e₃ = and-first (eqb (a .states) (b .states) && eqb (a .inputs) (b .inputs) && eqb (a .outputs) (b .outputs)) (eqb (a .width) (b .width)) e in
+    let e₂ = and-first (eqb (a .states) (b .states) && eqb (a .inputs) (b .inputs)) (eqb (a .outputs) (b .outputs)) e₃ in
+    let p : a .states ≡ b .states = eqb-true _ _ (and-first (eqb (a .states) (b .states)) (eqb (a .inputs) (b .inputs)) e₂) in
+    let q : a .inputs ≡ b .inputs = eqb-true _ _ (and-second (eqb (a .states) (b .states)) (eqb (a .inputs) (b .inputs)) e₂) in
+    let r : a .outputs ≡ b .outputs = eqb-true _ _ (and-second (eqb (a .states) (b .states) && eqb (a .inputs) (b .inputs)) (eqb (a .outputs) (b .outputs)) e₃) in
+    let w : a .width ≡ b .width = eqb-true _ _ (and-second (eqb (a .states) (b .states) && eqb (a .inputs) (b .inputs) && eqb (a .outputs) (b .outputs)) (eqb (a .width) (b .width)) e) in
+    λ i. HeadLine.Read (record { states = p i; inputs = q i; outputs = r i; width = w i })
+head-eq (HeadLine.Refused r) b e = absurd (let z : _≡_ {A = ℕ} 0 1 = cc in omega arith)
+
+right-holds : (c : Case) → right c ≡ true → Holds c
+unfolding right
+right-holds (reports listing text) e = same-eq _ _ e
+right-holds (covers listing text) e = same-eq _ _ e
+right-holds (reads line head) e = head-eq _ _ e
+right-holds (faces codes group text) e =
+    let a : Bool = same (face (length codes) (bitsOf codes) (setOf one (bytes group))) (bytes text) in
+    let b : Bool = allMet (length codes) (bitsOf codes) (groupAsks (length codes) (setOf one (bytes group))) in
+    (same-eq _ _ (and-first a b e), and-second a b e)
+right-holds (meets codes r) e = e
+right-holds (looked r moves digits) e = same-eq _ _ e
+
+all-hold : (cs : List Case) → allRight cs ≡ true → AllHold cs
+unfolding allRight
+all-hold [] e = tt
+all-hold (c ∷ cs) e = (right-holds c (and-first (right c) (allRight cs) e), all-hold cs (and-second (right c) (allRight cs) e))
+
+-- P1 to P10 hold
+pub known : AllHold cases
+known = all-hold cases computed

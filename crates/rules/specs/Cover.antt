@@ -1,0 +1,82 @@
+-- 01, "Report and cover": the face of a group (002), the cover's bytes, and when a row fires in the listing and in the cover.
+use mathlib.Core.Bool.{Bool, true, false, _&&_, _||_, not, cond}
+use mathlib.Core.List.{List, [], _∷_, _++_, map}
+use Prim.Native.Nat.{ℕ, zero, suc, _+_}
+use lib.ListN.{length}
+use lib.Dec.{eqb}
+use lib.Bits.{bitAnd}
+use Rattle.sets.specs.Sets.{has, every, statesFrom}
+use Rattle.rules.specs.Text.{bytes, digit, lf, space, dash, nought, one, decimal, fieldAt, split}
+use Rattle.rules.specs.Listing.{rowsOf}
+use Rattle.rules.specs.Requirements.{wholly}
+use Rattle.rules.specs.Code.{codeOf}
+use Rattle.rules.specs.Report.{digits, joinedLines}
+use Rattle.rules.specs.declared.Row.{Row}
+use Rattle.rules.specs.declared.Head.{Head}
+use Rattle.rules.specs.declared.Listing.{Listing}
+
+-- ---- the face
+
+-- 0 or 1 where all the group's codes agree, a dash elsewhere
+unfoldable pub faceAt : ℕ → ℕ → ℕ → ℕ
+unfolding wholly
+faceAt n g b = cond (wholly n b 0 g) nought (cond (wholly n b 1 g) one dash)
+
+abbrev pub face : ℕ → List ℕ → ℕ → List ℕ
+face n bits g = map (faceAt n g) bits
+
+-- ---- a row of the cover
+
+-- input j as it stood in the listing
+abbrev pub inputAt : Row → ℕ → ℕ
+inputAt r j = cond (eqb (has (r .input .dashes) j) 1) dash (nought + has (r .input .ones) j)
+
+-- the code of the next state, zeros if the row names none: a bit's digit is 1 where it has value 1 on the state named
+abbrev pub nextCode : List ℕ → ℕ → List ℕ
+nextCode bits next = map (λ b. digit (not (eqb (bitAnd b next) 0))) bits
+
+-- output j, a dash as 0
+abbrev pub outputAt : Row → ℕ → ℕ
+outputAt r j = nought + has (r .outputs .ones) j
+
+-- the input, the face, a space, the code of the next state, the outputs
+unfoldable pub coverRow : Head → List ℕ → Row → List ℕ
+unfolding faceAt statesFrom
+coverRow h bits r =
+    map (inputAt r) (statesFrom 0 (h .inputs))
+    ++ (face (h .states) bits (r .group)
+    ++ (space ∷ (digits (nextCode bits (r .next))
+    ++ map (outputAt r) (statesFrom 0 (h .outputs)))))
+
+-- `.i` (i + bits), `.o` (bits + o), `.p` (rows), a line per row in order, `.e`
+unfoldable pub cover : Listing → List ℕ → List ℕ
+unfolding coverRow joinedLines decimal
+cover t bits =
+    bytes ".i " ++ (decimal (t .head .inputs + length bits)
+    ++ (bytes "\n.o " ++ (decimal (length bits + t .head .outputs)
+    ++ (bytes "\n.p " ++ (decimal (length (rowsOf t))
+    ++ (lf ∷ (joinedLines (map (λ r. coverRow (t .head) bits r ++ (lf ∷ [])) (rowsOf t))
+    ++ bytes ".e\n")))))))
+
+-- ---- when a row fires
+
+-- a row of the listing, at the input vector x (input j is digit j) and the state s
+unfoldable pub fires : Head → Row → ℕ → ℕ → Bool
+unfolding every
+fires h r x s = every (h .inputs) (λ j. eqb (has (r .input .dashes) j) 1 || eqb (has (r .input .ones) j) (has x j)) && eqb (has (r .group) s) 1
+
+-- characters against digits: a dash takes either
+unfoldable pub takes : List ℕ → List ℕ → Bool
+takes [] [] = true
+takes [] (d ∷ ds) = false
+takes (c ∷ cs) [] = false
+takes (c ∷ cs) (d ∷ ds) = (eqb c dash || eqb c (nought + d)) && takes cs ds
+
+-- the digits of the input vector x
+abbrev pub vector : ℕ → ℕ → List ℕ
+vector i x = map (has x) (statesFrom 0 i)
+
+-- a line of a cover, at the digits of its inputs: the first of its two fields takes them
+unfoldable pub lineFires : List ℕ → List ℕ → Bool
+unfolding takes split
+lineFires l ds = takes (fieldAt l 0) ds

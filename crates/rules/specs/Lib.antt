@@ -1,0 +1,13 @@
+pub mod Limits
+pub mod Refusals
+pub mod Text
+pub mod Lines
+pub mod Listing
+pub mod Requirements
+pub mod Looks
+pub mod OneBit
+pub mod Code
+pub mod Report
+pub mod Cover
+pub mod Answers
+pub mod Trial

@@ -1,0 +1,28 @@
+-- The limits that 01 sets, each under one name.
+use Prim.Native.Nat.{ℕ}
+
+abbrev pub most-states : ℕ
+most-states = 32
+
+abbrev pub most-inputs : ℕ
+most-inputs = 16
+
+abbrev pub most-outputs : ℕ
+most-outputs = 32
+
+-- the widest code
+abbrev pub most-bits : ℕ
+most-bits = 32
+
+abbrev pub most-rows : ℕ
+most-rows = 128
+
+abbrev pub most-dichotomies : ℕ
+most-dichotomies = 64
+
+abbrev pub most-bytes : ℕ
+most-bytes = 65536
+
+-- the requirements of a trial record
+abbrev pub most-trial : ℕ
+most-trial = 256

@@ -1,0 +1,22 @@
+-- 01, "Refusal numbers": the number of each refusal, and what a C host gets for one.
+use Prim.Native.Nat.{ℕ, _+_, _*_}
+use lib.IntN.{ℤ, pos, negℤ}
+use Rattle.rules.specs.declared.Refusal.{Refusal}
+use Rattle.rules.specs.declared.Refusal.the-variants.{BadLine, Limit, Place, EmptyGroup, NextState, Conflict, TooWide, Stalled, Unmet, NoRoom, BadCall}
+
+abbrev pub number : Refusal → ℕ
+number BadLine = 1
+number Limit = 2
+number Place = 3
+number EmptyGroup = 4
+number NextState = 5
+number Conflict = 6
+number TooWide = 7
+number Stalled = 8
+number Unmet = 9
+number NoRoom = 10
+number BadCall = 11
+
+-- minus (number × 100,000 + line)
+unfoldable pub minus : Refusal → ℕ → ℤ
+minus r line = negℤ (pos (number r * 100000 + line))

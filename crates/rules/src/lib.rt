@@ -1,0 +1,149 @@
+// The things that document 01 names: states, requirements, rows, listings, refusals. Their rules stand in specs/.
+ghost use mathlib.Core.Path.{_≡_};
+ghost use Rattle.rules.specs.Refusals.{number};
+
+// The limits of a listing and of a trial record.
+pub const MOST_STATES: usize = 32;
+
+pub const MOST_INPUTS: usize = 16;
+
+pub const MOST_OUTPUTS: usize = 32;
+
+pub const MOST_BITS: usize = 32;
+
+pub const MOST_ROWS: usize = 128;
+
+pub const MOST_DICHOTOMIES: usize = 64;
+
+pub const MOST_BYTES: usize = 65536;
+
+pub const MOST_TRIAL: usize = 256;
+
+// A state's number, from 0. Moves and gains take it.
+pub struct StateNumber(pub usize);
+
+// A requirement's number, from 0. Judgements of meeting and `UN` lines take it.
+pub struct RequirementNumber(pub usize);
+
+// A requirement: its first and its second block, each a set of states.
+pub struct Requirement {
+    pub first: u64,
+    pub second: u64,
+}
+
+// What `MC` says: how many states, inputs and outputs, and the width.
+pub struct Head {
+    pub states: usize,
+    pub inputs: usize,
+    pub outputs: usize,
+    pub width: usize,
+}
+
+// Characters `0 1 -` of a field: digit j of a mask is character j.
+pub struct Pattern {
+    pub ones: u32,
+    pub dashes: u32,
+}
+
+// What `PT` says, and the line where it stands. `next` has one state, or none.
+// A dash of the outputs is kept, though the cover writes it as 0.
+pub struct Row {
+    pub input: Pattern,
+    pub group: u64,
+    pub next: u64,
+    pub outputs: Pattern,
+    pub line: usize,
+}
+
+// A listing: its head, its rows in the first places of a table, and its dichotomies in the first places of another.
+pub struct Listing {
+    pub head: Head,
+    pub rows: usize,
+    pub table: [Row; 128],
+    pub dichotomies: usize,
+    pub asked: [Requirement; 64],
+}
+
+// Why a call is refused, in the order of 01's table.
+pub enum Refusal {
+    BadLine,
+    Limit,
+    Place,
+    EmptyGroup,
+    NextState,
+    Conflict,
+    TooWide,
+    Stalled,
+    Unmet,
+    NoRoom,
+    BadCall,
+}
+
+impl Refusal {
+    // The refusal's number in 01's table.
+    pub fn number_of(self) -> u32
+        ensures { λ r. ⌜ r ≡ number self ⌝ }
+    {
+        match self {
+            Refusal::BadLine => 1,
+            Refusal::Limit => 2,
+            Refusal::Place => 3,
+            Refusal::EmptyGroup => 4,
+            Refusal::NextState => 5,
+            Refusal::Conflict => 6,
+            Refusal::TooWide => 7,
+            Refusal::Stalled => 8,
+            Refusal::Unmet => 9,
+            Refusal::NoRoom => 10,
+            Refusal::BadCall => 11,
+        }
+    }
+}
+
+// A call's outcome: accepted, or refused at a line.
+pub enum Verdict {
+    Accepted,
+    Refused(Refusal, usize),
+}
+
+// The mark that leads a line.
+pub enum Mark {
+    Mc,
+    Pt,
+    Di,
+    En,
+    Unknown,
+}
+
+// What a field says as a number.
+pub enum Numeral {
+    Is(usize),
+    Bad,
+}
+
+// What a reader of one line answers: what the line says, or the refusal.
+pub enum HeadLine {
+    Read(Head),
+    Refused(Refusal),
+}
+
+pub enum RowLine {
+    Read(Row),
+    Refused(Refusal),
+}
+
+pub enum DichotomyLine {
+    Read(Requirement),
+    Refused(Refusal),
+}
+
+pub enum EndLine {
+    Read,
+    Refused(Refusal),
+}
+
+// What the reader of a whole listing answers; the listing is blank where it is refused.
+pub struct Reading {
+    pub verdict: Verdict,
+    pub listing: Listing,
+}

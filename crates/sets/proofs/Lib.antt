@@ -1,0 +1,4 @@
+pub mod Members
+pub mod Totals
+pub mod Size
+pub mod Every
