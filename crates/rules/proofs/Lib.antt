@@ -1,1 +1,12 @@
 pub mod Known
+pub mod Counts
+pub mod Meeting
+pub mod Masks
+pub mod Shares
+pub mod Runs
+pub mod Crossing
+pub mod Choice
+pub mod Passes
+pub mod Complement
+pub mod FourLooks
+pub mod TrialRuns

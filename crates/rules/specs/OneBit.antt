@@ -2,7 +2,7 @@
 use mathlib.Core.Bool.{Bool, true, false, cond}
 use mathlib.Core.List.{List, [], _∷_}
 use Prim.Native.Nat.{ℕ, zero, suc, _+_, _-_}
-use lib.Dec.{ltb}
+use lib.Dec.{ltb, eqb}
 use lib.ListN.{length}
 use lib.IntN.{ℤ, subℕ}
 use Rattle.sets.specs.Sets.{has, everyone, flip}
@@ -22,15 +22,17 @@ gain n rs b s = subℕ (metCount n rs (flip b s)) (metCount n rs b)
 
 -- ---- a pass
 
+-- by whether s is free, whether t is, and whether t has the smaller gain
+abbrev pub rather : ℕ → ℕ → Bool → Bool
+rather zero t smaller = false
+rather (suc s) zero smaller = true
+rather (suc s) (suc t) smaller = smaller
+
 -- s goes before t: s is free, and t is not free or has the smaller gain.
 -- What is met now is the same for both, so their gains are compared by what is met after the flip.
 unfoldable pub before : ℕ → List Requirement → ℕ → ℕ → ℕ → ℕ → Bool
 unfolding metCount
-before n rs b free s t =
-    elim (has free s) [
-      | zero ↦ false
-      | suc d ↦ elim (has free t) [ zero ↦ true | suc e ↦ ltb (metCount n rs (flip b t)) (metCount n rs (flip b s)) ]
-    ]
+before n rs b free s t = rather (has free s) (has free t) (ltb (metCount n rs (flip b t)) (metCount n rs (flip b s)))
 
 -- of the states below k, the free one with the greatest gain, the lowest number on ties
 unfoldable pub choice : ℕ → List Requirement → ℕ → ℕ → ℕ → ℕ
@@ -53,7 +55,7 @@ passMoves n rs b = movesFrom n rs n b (everyone n)
 unfoldable pub kept : ℕ → List Requirement → ℕ → List ℕ → ℕ
 unfolding metCount
 kept n rs b [] = b
-kept n rs b (s ∷ ss) = let c : ℕ = kept n rs (flip b s) ss in elim (ltb (metCount n rs b) (metCount n rs c)) [ true ↦ c | false ↦ b ]
+kept n rs b (s ∷ ss) = let c : ℕ = kept n rs (flip b s) ss in cond (ltb (metCount n rs b) (metCount n rs c)) c b
 
 -- ---- passes, until none gains
 
@@ -74,10 +76,8 @@ passesFrom zero n rs b = record { bit = b; passes = 0; looks = 0 }
 passesFrom (suc k) n rs b =
     let ss : List ℕ = passMoves n rs b in
     let c : ℕ = kept n rs b ss in
-    elim (ltb (metCount n rs b) (metCount n rs c)) [
-      | true ↦ counted (looks n rs b ss) (passesFrom k n rs c)
-      | false ↦ record { bit = b; passes = 1; looks = looks n rs b ss }
-    ]
+    let more : Bit = counted (looks n rs b ss) (passesFrom k n rs c) in
+    cond (ltb (metCount n rs b) (metCount n rs c)) more (record { bit = b; passes = 1; looks = looks n rs b ss })
 
 unfoldable pub passes : ℕ → List Requirement → Bit
 unfolding passesFrom
@@ -85,7 +85,7 @@ passes n rs = passesFrom (suc (length rs)) n rs (start rs)
 
 -- last, if state 0 has value 1, the whole bit is complemented
 unfoldable pub complemented : ℕ → ℕ → ℕ
-complemented n b = elim (has b 0) [ zero ↦ b | suc d ↦ everyone n - b ]
+complemented n b = cond (eqb (has b 0) 1) (everyone n - b) b
 
 -- the next bit, from the live requirements
 unfoldable pub newBit : ℕ → List Requirement → Bit

@@ -1,0 +1,18 @@
+-- Two blocks of states and a bit, as code has them: masks, and what is asked of them by a few operations.
+use mathlib.Core.Bool.{Bool, _||_}
+use Prim.Native.Nat.{ℕ}
+use lib.Bits.{bitAnd, bitOr, bitXor}
+use lib.Dec.{eqb, leb}
+use Rattle.sets.specs.Sets.{size}
+
+-- the members that must change for the block z to have value 0 and the block o value 1: those whose value is not whether they are in o
+abbrev pub wrong : ℕ → ℕ → ℕ → ℕ
+wrong z o b = bitAnd (bitOr z o) (bitXor b o)
+
+-- one way round nothing must change
+unfoldable pub metMask : ℕ → ℕ → ℕ → Bool
+metMask f g b = eqb (wrong f g b) 0 || eqb (wrong g f b) 0
+
+-- one way round at most one member must change
+unfoldable pub nearMask : ℕ → ℕ → ℕ → Bool
+nearMask f g b = leb (size (wrong f g b)) 1 || leb (size (wrong g f b)) 1
