@@ -96,12 +96,11 @@ complemented-is n b p = go (eqb (has b 0) 1) refl
     go true e = inr (refl, eqb-true (has b 0) 1 e)
     go false e = inl (refl, (let h = eqb-false (has b 0) 1 e in omega (arith, has-lt b 0)))
 
--- state 0 has value 0
-pub zero-first : (n b : ℕ) → 0 < n → b < 2 ^ n → has (complemented n b) 0 ≡ 0
+zero-first : (n b : ℕ) → 0 < n → b < 2 ^ n → has (complemented n b) 0 ≡ 0
 zero-first n b h p =
     ⊎-elim (λ e. ap (λ (m : ℕ). has m 0) (e .0) ∙ e .1) (λ e. ap (λ (m : ℕ). has m 0) (e .0) ∙ has-not n b 0 p h ∙ ap (λ (m : ℕ). 1 - m) (e .1)) (complemented-is n b p)
 
-pub complemented-lt : (n b : ℕ) → b < 2 ^ n → complemented n b < 2 ^ n
+complemented-lt : (n b : ℕ) → b < 2 ^ n → complemented n b < 2 ^ n
 complemented-lt n b p =
     ⊎-elim (λ e. subst (λ (m : ℕ). m < 2 ^ n) (sym (e .0)) p) (λ e. subst (λ (m : ℕ). m < 2 ^ n) (sym (e .0)) (not-lt n b)) (complemented-is n b p)
 
@@ -116,3 +115,13 @@ new-bit-best n rs p =
     ⊎-elim (λ e. subst (λ (m : ℕ). NoFlipRaises n rs m) (sym (e .0)) (passes-best n rs))
     (λ e. subst (λ (m : ℕ). NoFlipRaises n rs m) (sym (e .0)) (no-flip-turned n rs (everyone n - passes n rs .bit) (passes n rs .bit) (λ s h. has-not n (passes n rs .bit) s q h) (passes-best n rs)))
     (complemented-is n (passes n rs .bit) q)
+
+-- state 0 has value 0 in it, so state 0's code is all zeros
+pub new-bit-zero : (n : ℕ) (rs : List Requirement) → 0 < n → start rs < 2 ^ n → has (newBit n rs .bit) 0 ≡ 0
+unfolding newBit passes
+new-bit-zero n rs h p = zero-first n (passes n rs .bit) h (passes-lt (suc (length rs)) n rs (start rs) p)
+
+-- and it has no digit at n or above
+pub new-bit-lt : (n : ℕ) (rs : List Requirement) → start rs < 2 ^ n → newBit n rs .bit < 2 ^ n
+unfolding newBit passes
+new-bit-lt n rs p = complemented-lt n (passes n rs .bit) (passes-lt (suc (length rs)) n rs (start rs) p)

@@ -19,10 +19,14 @@ use Rattle.rules.specs.declared.Requirement.{Requirement}
 use Rattle.rules.proofs.Counts.{cost, Apart, cost-neither, cost-turned, cost-flipped, change-flip, change-out}
 use Rattle.rules.proofs.Meeting.{oneWay, otherWay, met-counts}
 
+-- met after the flip less met now
+share-is : (n : ℕ) (r : Requirement) (b s : ℕ) → share n r b s ≡ subℕ (cond (met n r (flip b s)) 1 0) (cond (met n r b) 1 0)
+unfolding share
+share-is n r b s = refl
+
 -- 1, 0 or -1
 pub share-three : (n : ℕ) (r : Requirement) (b s : ℕ) → (share n r b s ≡ pos 1) ⊎ ((share n r b s ≡ pos 0) ⊎ (share n r b s ≡ negsuc 0))
-unfolding share
-share-three n r b s = go (met n r (flip b s)) (met n r b)
+share-three n r b s = rw (share-is n r b s) (go (met n r (flip b s)) (met n r b))
   where
     go : (x y : Bool) → (subℕ (cond x 1 0) (cond y 1 0) ≡ pos 1) ⊎ ((subℕ (cond x 1 0) (cond y 1 0) ≡ pos 0) ⊎ (subℕ (cond x 1 0) (cond y 1 0) ≡ negsuc 0))
     go true true = inr (inl refl)
@@ -52,8 +56,7 @@ or-swap false false = refl
 
 module _ (n : ℕ) (r : Requirement) (b s : ℕ) (hs : s < n) where
   share-counts : share n r b s ≡ subℕ (cond (eqb (oneWay n r (flip b s)) 0 || eqb (otherWay n r (flip b s)) 0) 1 0) (cond (eqb (oneWay n r b) 0 || eqb (otherWay n r b) 0) 1 0)
-  unfolding share
-  share-counts = ap₂ (λ (x y : Bool). subℕ (cond x 1 0) (cond y 1 0)) (met-counts n r (flip b s)) (met-counts n r b)
+  share-counts = share-is n r b s ∙ ap₂ (λ (x y : Bool). subℕ (cond x 1 0) (cond y 1 0)) (met-counts n r (flip b s)) (met-counts n r b)
 
   -- a state in neither block
   pub share-out : has (r .first) s + has (r .second) s ≡ 0 → share n r b s ≡ pos 0
@@ -129,11 +132,12 @@ flip-twice b s t u h = go (ℕ-discrete u t)
 
 -- the move of a state in neither block
 share-aside : (n : ℕ) (r : Requirement) (b s t : ℕ) → has (r .first) s + has (r .second) s ≡ 0 → share n r (flip b s) t ≡ share n r b t
-unfolding share
 share-aside n r b s t h =
-    ap₂ (λ (x y : Bool). subℕ (cond x 1 0) (cond y 1 0))
+    share-is n r (flip b s) t
+    ∙ ap₂ (λ (x y : Bool). subℕ (cond x 1 0) (cond y 1 0))
     (same (flip (flip b s) t) (flip b t) (flip-twice b s t))
     (same (flip b s) b (has-flip-other b s))
+    ∙ sym (share-is n r b t)
   where
     same : (x y : ℕ) → ((u : ℕ) → (u ≡ s → ⊥) → has x u ≡ has y u) → met n r x ≡ met n r y
     same x y e =

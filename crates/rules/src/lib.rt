@@ -147,3 +147,17 @@ pub struct Reading {
     pub verdict: Verdict,
     pub listing: Listing,
 }
+
+// What the encoder answers: a code, bit k the set of the states with value 1 in it, and for each requirement the bit that first met it.
+pub struct Encoding {
+    pub verdict: Verdict,
+    pub width: usize,
+    pub bits: [u64; 32],
+    pub asked: usize,
+    pub by: [u8; 4400],
+    pub passes: u64,
+    pub looks: u64,
+}
+
+// What stands in `by` for a requirement that no bit meets.
+pub const NO_BIT: u8 = 255;
