@@ -13,7 +13,8 @@ use Rattle.sets.specs.Sets.{has, flip}
 use Rattle.rules.specs.Looks.{mustChange, near, member, looksAt, moveLooks, looks}
 use Rattle.rules.specs.declared.Requirement.{Requirement}
 use Rattle.rules.proofs.Counts.{cost, Apart, apart-turned, cost-neither, cost-turned, cost-flipped, cost-other, change-total, change-flip}
-use Rattle.rules.proofs.Meeting.{oneWay, otherWay, or-either}
+use Rattle.rules.proofs.Or.{or-cases}
+use Rattle.rules.proofs.Meeting.{oneWay, otherWay}
 use Rattle.rules.proofs.Runs.{Fresh, Once, Below, sumOver, sum-fresh, sum-le}
 use Rattle.rules.specs.OneBit.{passMoves}
 use Rattle.rules.proofs.Choice.{pass-fair}
@@ -38,7 +39,7 @@ look-out n r b s h =
 near-either : (n : ℕ) (r : Requirement) (b : ℕ) → near n r b ≡ true → (oneWay n r b ≤ 1) ⊎ (otherWay n r b ≤ 1)
 unfolding near
 near-either n r b e =
-    ⊎-elim (λ h. inl (leb-true (oneWay n r b) 1 h)) (λ h. inr (leb-true (otherWay n r b) 1 h)) (or-either (leb (oneWay n r b) 1) (leb (otherWay n r b) 1) e)
+    ⊎-elim (λ h. inl (leb-true (oneWay n r b) 1 h)) (λ h. inr (leb-true (otherWay n r b) 1 h)) (or-cases (leb (oneWay n r b) 1) (leb (otherWay n r b) 1) e)
 
 -- a move that looks finds few on one side, before or after
 look-near : (n : ℕ) (r : Requirement) (b s : ℕ)

@@ -1,5 +1,8 @@
 pub mod Known
+pub mod Or
+pub mod Ways
 pub mod Counts
+pub mod Blocks
 pub mod Meeting
 pub mod Masks
 pub mod Shares
@@ -10,3 +13,16 @@ pub mod Passes
 pub mod Complement
 pub mod FourLooks
 pub mod TrialRuns
+pub mod Asked
+pub mod Unmet
+pub mod Built
+pub mod Faces
+pub mod Fields
+pub mod Fires
+pub mod Granted
+pub mod Characters
+pub mod SoundLines
+pub mod Sound
+pub mod Most
+pub mod CoverLines
+pub mod Written

@@ -5,16 +5,17 @@ use mathlib.Core.Logic.{_⊎_, inl, inr, ⊎-elim}
 use Prim.Native.Nat.{ℕ, zero, suc, _+_, _-_, _*_, _≤_, _<_}
 use native.Mathlib.Nat.{zero-mul, one-mul, mul-zero}
 use native.Mathlib.Omega.{arith}
-use native.Mathlib.Decide.{ℕ-discrete}
 use lib.Dec.{eqb}
-use borrow.Author.Tests.{eq-eqb, ne-eqb, eqb-true}
+use borrow.Author.Tests.{eq-eqb, ne-eqb}
 use Rattle.sets.specs.Sets.{has, total}
 use Rattle.sets.proofs.Members.{has-lt}
 use Rattle.sets.proofs.Totals.{total-none, none-total}
-use Rattle.sets.proofs.Every.{and-first, and-second, and-both, every-at, at-every}
+use Rattle.sets.proofs.Every.{and-first, and-second, and-both}
 use Rattle.rules.specs.Requirements.{wholly, met}
 use Rattle.rules.specs.Looks.{mustChange}
 use Rattle.rules.specs.declared.Requirement.{Requirement}
+use Rattle.rules.proofs.Or.{or-first, or-second, or-cases}
+use Rattle.rules.proofs.Blocks.{wholly-on, on-wholly}
 use Rattle.rules.proofs.Counts.{cost}
 
 -- of the states below n, those in z have value 0 and those in o value 1
@@ -22,36 +23,14 @@ pub record Split (n z o b : ℕ) : Type 0 where
   pub zeros : (s : ℕ) → s < n → has z s ≡ 1 → has b s ≡ 0
   pub ones : (s : ℕ) → s < n → has o s ≡ 1 → has b s ≡ 1
 
-pub or-either : (a b : Bool) → (a || b) ≡ true → (a ≡ true) ⊎ (b ≡ true)
-or-either true b e = inl refl
-or-either false b e = inr e
-
-pub or-true : (a : Bool) → (a || true) ≡ true
-or-true true = refl
-or-true false = refl
-
-wholly-at : (n b v block : ℕ) → wholly n b v block ≡ true → (s : ℕ) → s < n → has block s ≡ 1 → has b s ≡ v
-unfolding wholly
-wholly-at n b v block e s h m =
-    ⊎-elim (λ x. absurd (let z : has block s ≡ 0 = eqb-true (has block s) 0 x in omega arith)) (λ x. eqb-true (has b s) v x)
-    (or-either (eqb (has block s) 0) (eqb (has b s) v) (every-at n (λ t. eqb (has block t) 0 || eqb (has b t) v) e s h))
-
-at-wholly : (n b v block : ℕ) → ((s : ℕ) → s < n → has block s ≡ 1 → has b s ≡ v) → wholly n b v block ≡ true
-unfolding wholly
-at-wholly n b v block f = at-every n (λ t. eqb (has block t) 0 || eqb (has b t) v) (λ s h. at s h (ℕ-discrete (has block s) 0))
-  where
-    at : (s : ℕ) → s < n → Dec (has block s ≡ 0) → (eqb (has block s) 0 || eqb (has b s) v) ≡ true
-    at s h (yes e) = ap (λ (t : Bool). t || eqb (has b s) v) (eq-eqb (has block s) 0 e)
-    at s h (no e) = ap (λ (t : Bool). eqb (has block s) 0 || t) (eq-eqb (has b s) v (f s h (omega (arith, has-lt block s)))) ∙ or-true (eqb (has block s) 0)
-
 module _ (n z o b : ℕ) where
   pub split-wholly : Split n z o b → (wholly n b 0 z && wholly n b 1 o) ≡ true
-  split-wholly h = and-both (wholly n b 0 z) (wholly n b 1 o) (at-wholly n b 0 z (h .zeros)) (at-wholly n b 1 o (h .ones))
+  split-wholly h = and-both (wholly n b 0 z) (wholly n b 1 o) (on-wholly n b 0 z (h .zeros)) (on-wholly n b 1 o (h .ones))
 
   pub wholly-split : (wholly n b 0 z && wholly n b 1 o) ≡ true → Split n z o b
   wholly-split e = record {
-    zeros = wholly-at n b 0 z (and-first (wholly n b 0 z) (wholly n b 1 o) e);
-    ones = wholly-at n b 1 o (and-second (wholly n b 0 z) (wholly n b 1 o) e);
+    zeros = wholly-on n b 0 z (and-first (wholly n b 0 z) (wholly n b 1 o) e);
+    ones = wholly-on n b 1 o (and-second (wholly n b 0 z) (wholly n b 1 o) e);
   }
 
   -- nothing must change
@@ -96,7 +75,7 @@ unfolding met
 met-means n r b e =
     ⊎-elim (λ x. inl (wholly-split n (r .first) (r .second) b x))
     (λ x. inr (wholly-split n (r .second) (r .first) b (and-both (wholly n b 0 (r .second)) (wholly n b 1 (r .first)) (and-second (wholly n b 1 (r .first)) (wholly n b 0 (r .second)) x) (and-first (wholly n b 1 (r .first)) (wholly n b 0 (r .second)) x))))
-    (or-either (wholly n b 0 (r .first) && wholly n b 1 (r .second)) (wholly n b 1 (r .first) && wholly n b 0 (r .second)) e)
+    (or-cases (wholly n b 0 (r .first) && wholly n b 1 (r .second)) (wholly n b 1 (r .first) && wholly n b 0 (r .second)) e)
 
 pub means-met : (n : ℕ) (r : Requirement) (b : ℕ) → Split n (r .first) (r .second) b ⊎ Split n (r .second) (r .first) b → met n r b ≡ true
 unfolding met
@@ -105,7 +84,7 @@ means-met n r b (inr h) =
     let e : (wholly n b 0 (r .second) && wholly n b 1 (r .first)) ≡ true = split-wholly n (r .second) (r .first) b h in
     let f : (wholly n b 1 (r .first) && wholly n b 0 (r .second)) ≡ true =
     and-both (wholly n b 1 (r .first)) (wholly n b 0 (r .second)) (and-second (wholly n b 0 (r .second)) (wholly n b 1 (r .first)) e) (and-first (wholly n b 0 (r .second)) (wholly n b 1 (r .first)) e) in
-    ap (λ (t : Bool). (wholly n b 0 (r .first) && wholly n b 1 (r .second)) || t) f ∙ or-true (wholly n b 0 (r .first) && wholly n b 1 (r .second))
+    or-second (wholly n b 0 (r .first) && wholly n b 1 (r .second)) (wholly n b 1 (r .first) && wholly n b 0 (r .second)) f
 
 -- the number of members that must change one way round, and the other
 abbrev pub oneWay : ℕ → Requirement → ℕ → ℕ
@@ -119,8 +98,8 @@ pub met-counts : (n : ℕ) (r : Requirement) (b : ℕ) → met n r b ≡ (eqb (o
 met-counts n r b = go (met n r b) refl
   where
     is-met : Split n (r .first) (r .second) b ⊎ Split n (r .second) (r .first) b → (eqb (oneWay n r b) 0 || eqb (otherWay n r b) 0) ≡ true
-    is-met (inl h) = ap (λ (t : Bool). t || eqb (otherWay n r b) 0) (eq-eqb (oneWay n r b) 0 (split-none n (r .first) (r .second) b h))
-    is-met (inr h) = ap (λ (t : Bool). eqb (oneWay n r b) 0 || t) (eq-eqb (otherWay n r b) 0 (split-none n (r .second) (r .first) b h)) ∙ or-true (eqb (oneWay n r b) 0)
+    is-met (inl h) = or-first (eqb (oneWay n r b) 0) (eqb (otherWay n r b) 0) (eq-eqb (oneWay n r b) 0 (split-none n (r .first) (r .second) b h))
+    is-met (inr h) = or-second (eqb (oneWay n r b) 0) (eqb (otherWay n r b) 0) (eq-eqb (otherWay n r b) 0 (split-none n (r .second) (r .first) b h))
 
     never : met n r b ≡ false → (x : Split n (r .first) (r .second) b ⊎ Split n (r .second) (r .first) b) → ⊥
     never e x = let y : met n r b ≡ true = means-met n r b x in let z : _≡_ {A = ℕ} 0 1 = cc in omega arith

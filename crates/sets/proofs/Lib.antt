@@ -2,3 +2,5 @@ pub mod Members
 pub mod Totals
 pub mod Size
 pub mod Every
+pub mod LowestMember
+pub mod SizeMembers

@@ -2,6 +2,7 @@
 ghost use mathlib.Core.Path.{_≡_};
 ghost use Prim.Native.Nat.{_<_, _≤_};
 ghost use lib.Dec.{eqb, leb};
+ghost use lib.Count.{trailingZeros};
 ghost use Rattle.sets.specs.Sets.{has, flip, size};
 
 // Whether state s is a member of m; a number past the mask's width is no member.
@@ -36,4 +37,11 @@ pub fn few(m: u64) -> bool
     ensures { λ r. ⌜ r ≡ leb (size m) 1 ⌝ }
 {
     u64::count_ones(m) <= 1
+}
+
+// The lowest member of m, or 64 where it has none.
+pub fn lowest(m: u64) -> usize
+    ensures { λ r. ⌜ r ≡ trailingZeros 64 m ⌝ }
+{
+    u64::trailing_zeros(m) as usize
 }
