@@ -1,0 +1,4 @@
+pub mod Raising
+pub mod Lists
+pub mod OneMove
+pub mod Tally
