@@ -1,5 +1,6 @@
 pub mod Limits
 pub mod Refusals
+pub mod Cases
 pub mod Text
 pub mod Lines
 pub mod Listing
