@@ -1,4 +1,13 @@
 pub mod Raising
 pub mod Lists
+pub mod Either
+pub mod Ready
+pub mod Shares
+pub mod Looks
+pub mod Shows
+pub mod Highest
 pub mod OneMove
 pub mod Tally
+pub mod Better
+pub mod OnePass
+pub mod AllPasses

@@ -1,30 +1,16 @@
 -- One move of a pass, as code makes it step by step.
 use mathlib.Core.Path.{_≡_, refl, sym, ap, ap₂, _∙_, subst}
-use mathlib.Core.Bool.{Bool, true, false, cond}
 use mathlib.Core.List.{List}
 use Prim.Native.Nat.{ℕ, zero, suc, _+_, _-_, _≤_, _<_}
 use native.Mathlib.Omega.{arith}
-use lib.Dec.{ltb}
 use lib.ListN.{getD}
-use Rattle.sets.specs.Sets.{has, flip}
-use Rattle.rules.specs.OneBit.{rather}
+use Rattle.sets.specs.Sets.{flip}
 use Rattle.rules.specs.declared.Requirement.{Requirement}
 use Rattle.passes.specs.Moves.{moved, looked}
 use Rattle.passes.specs.Pass.{Going, highest, reached, bestOf, going, goOn, goMoves}
+use Rattle.passes.proofs.Highest.{highest-lt}
 use Rattle.passes.specs.declared.Passed.{Passed}
 use Rattle.passes.specs.declared.Way.{Way}
-
-cond-lt : (t : Bool) (x y m : ℕ) → x < m → y < m → cond t x y < m
-cond-lt true x y m p q = p
-cond-lt false x y m p q = q
-
--- the choice is one of the states, or 0
-pub highest-lt : (free : ℕ) (t : List ℕ) (k m : ℕ) → k ≤ m → 0 < m → highest free t k < m
-unfolding highest
-highest-lt free t zero m p q = q
-highest-lt free t (suc k) m p q =
-    let r : ℕ = highest free t k in
-    cond-lt (rather (has free k) (has free r) (ltb (getD t r 0) (getD t k 0))) k r m (omega arith) (highest-lt free t k m (omega arith) q)
 
 module _ (n : ℕ) (rs : List Requirement) (w : Way) (t : List ℕ) where
   pub go-on : (s a f v l m : ℕ) (t′ : List ℕ) (p : Passed) → n ≤ 64
@@ -33,7 +19,7 @@ module _ (n : ℕ) (rs : List Requirement) (w : Way) (t : List ℕ) where
       → going (record { bit = a; free = f; level = l; best = p }) t′ ≡ goOn n rs (going w t)
   unfolding goOn
   go-on s a f v l m t′ p h es ea ef ev el em et ep =
-      let q : s < 64 = subst (λ (k : ℕ). k < 64) (sym es) (highest-lt (w .free) t n 64 h (omega arith)) in
+      let q : s < 64 = subst (λ (k : ℕ). k < 64) (sym es) (highest-lt 64 (w .free) t n (omega arith) h) in
       let a₁ : a ≡ flip (w .bit) s = ea q in
       let f₁ : f ≡ flip (w .free) s = ef q in
       cc

@@ -26,3 +26,4 @@ pub mod Sound
 pub mod Most
 pub mod CoverLines
 pub mod Written
+pub mod Good
