@@ -2,7 +2,7 @@
 use mathlib.Core.Path.{_≡_, refl, subst}
 use mathlib.Core.Bool.{Bool, true, false, cond}
 use mathlib.Core.List.{List}
-use Prim.Native.Nat.{ℕ, zero, suc, _+_, _*_, _%_, _^_, _≤_, _<_}
+use Prim.Native.Nat.{ℕ, zero, suc, _+_, _*_, _%_, _^_, _≤_, _<_, min}
 use native.Mathlib.Nat.{suc-mul, mul-le-mul}
 use native.Mathlib.Omega.{arith}
 use lib.Dec.{ltb}
@@ -13,7 +13,7 @@ use Rattle.rules.specs.OneBit.{Bit, start, passMoves, kept, counted, passesFrom
 use Rattle.rules.specs.declared.Requirement.{Requirement}
 use Rattle.rules.proofs.Good.{AllGood, start-lt}
 use Rattle.passes.specs.Table.{level}
-use Rattle.passes.specs.Pass.{passed, passesBy}
+use Rattle.passes.specs.Pass.{passed, passesBy, tallied, builtBy}
 use Rattle.passes.specs.declared.Passed.{Passed}
 use Rattle.passes.specs.declared.Built.{Built}
 use Rattle.passes.proofs.Ready.{Ready}
@@ -29,9 +29,9 @@ pub record Same (a : Built) (r : Bit) : Type 0 where
 -- ---- no sum is long
 
 -- at most k passes, each with at most four looks at a requirement
-record Few (k m : ℕ) (r : Bit) : Type 0 where
-  passes-few : r .passes ≤ k
-  looks-few : r .looks ≤ k * m
+pub record Few (k m : ℕ) (r : Bit) : Type 0 where
+  pub passes-few : r .passes ≤ k
+  pub looks-few : r .looks ≤ k * m
 
 few-none : (n : ℕ) (rs : List Requirement) (b m : ℕ) → Few 0 m (passesFrom 0 n rs b)
 unfolding passesFrom
@@ -97,3 +97,18 @@ module _ (n : ℕ) (rs : List Requirement) (ready : Ready n rs) where
   pub bit-same : Same (passesBy (suc (length rs)) n rs (start rs)) (passes n rs)
   unfolding passes
   bit-same = passes-same (suc (length rs)) (omega arith) (start rs) (start-lt n rs (ready .good))
+
+  pub bit-few : Few (suc (length rs)) (4 * length rs) (passes n rs)
+  unfolding passes
+  bit-few = few (suc (length rs)) n rs (start rs) (ready .good)
+
+  -- the same, as code counts
+  pub built-same : Same (builtBy n rs (start rs)) (passes n rs)
+  unfolding builtBy
+  built-same =
+      let m : min n 64 ≡ n = omega (arith, ready .fits) in
+      let l : length rs + 1 ≡ suc (length rs) = omega arith in
+      let s : Same (passesBy (suc (length rs)) n rs (start rs)) (passes n rs) = bit-same in
+      let f : Few (suc (length rs)) (4 * length rs) (passes n rs) = bit-few in
+      let most : suc (length rs) * (4 * length rs) ≤ 2 ^ 21 * (4 * 2 ^ 20) = mul-le-mul {n₂ = 2 ^ 21} {m₂ = 4 * 2 ^ 20} (omega (arith, ready .few)) (omega (arith, ready .few)) in
+      rw (m, l) (record { bit = s .bit; passes = omega (arith, s .passes, f .passes-few, ready .few); looks = omega (arith, s .looks, f .looks-few) })
