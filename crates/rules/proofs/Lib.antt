@@ -27,3 +27,4 @@ pub mod Most
 pub mod CoverLines
 pub mod Written
 pub mod Good
+pub mod LineNumbers

@@ -49,10 +49,10 @@ row-of t s k h = rw (getD-take (t .rows) (t .table) k noRow h) (s .row k h)
 
 -- ---- a listing as it grows
 
-goes-same : (a b : Listing) → goes a ≡ goes b → a ≡ b
+pub goes-same : (a b : Listing) → goes a ≡ goes b → a ≡ b
 goes-same a b e = cc
 
-stops-not : (f : Refusal) (u : Listing) → stops f ≡ goes u → ⊥
+pub stops-not : (f : Refusal) (u : Listing) → stops f ≡ goes u → ⊥
 stops-not f u e = let z : _≡_ {A = ℕ} 0 1 = cc in omega arith
 
 with-head : (h : Head) → SoundHead h → Sound (withHead h blank)
@@ -133,7 +133,7 @@ later-sound En k t l u s e = on (endLine l) e
 later-sound Unknown k t l u s e = absurd (stops-not BadLine u e)
 
 -- line 1 does not end a listing
-first-goes-on : (m : Mark) (l : List ℕ) → firstLine m blank l ≡ ends → ⊥
+pub first-goes-on : (m : Mark) (l : List ℕ) → firstLine m blank l ≡ ends → ⊥
 unfolding firstLine
 first-goes-on Mc l e = on (headLine l) e
   where
@@ -145,11 +145,11 @@ first-goes-on Di l e = let z : _≡_ {A = ℕ} 0 1 = cc in omega arith
 first-goes-on En l e = let z : _≡_ {A = ℕ} 0 1 = cc in omega arith
 first-goes-on Unknown l e = let z : _≡_ {A = ℕ} 0 1 = cc in omega arith
 
-line-first : (t : Listing) (l : List ℕ) → lineStep 1 t l ≡ firstLine (markIs (markOf l)) t l
+pub line-first : (t : Listing) (l : List ℕ) → lineStep 1 t l ≡ firstLine (markIs (markOf l)) t l
 unfolding lineStep
 line-first t l = refl
 
-line-later : (k : ℕ) (t : Listing) (l : List ℕ) → 2 ≤ k → lineStep k t l ≡ laterLine (markIs (markOf l)) k t l
+pub line-later : (k : ℕ) (t : Listing) (l : List ℕ) → 2 ≤ k → lineStep k t l ≡ laterLine (markIs (markOf l)) k t l
 unfolding lineStep
 line-later k t l h = rw (ne-eqb k 1 (λ e. omega arith))
 
@@ -181,18 +181,18 @@ unended-good k (x ∷ xs) = go (placed k (markIs (markOf (x ∷ xs))))
     go false = refused-good Place k
 
 -- what follows line k
-after : ℕ → Listing → List (List ℕ) → Step → Reading
+unfoldable pub after : ℕ → Listing → List (List ℕ) → Step → Reading
 after k t rest s = elim s [ goes u ↦ readLines (k + 1) u rest | ends ↦ ended k t rest | stops f ↦ refused f k ]
 
-reads-on : (k : ℕ) (t : Listing) (l m : List ℕ) (ms : List (List ℕ)) → readLines k t (l ∷ (m ∷ ms)) ≡ after k t (m ∷ ms) (lineStep k t l)
+pub reads-on : (k : ℕ) (t : Listing) (l m : List ℕ) (ms : List (List ℕ)) → readLines k t (l ∷ (m ∷ ms)) ≡ after k t (m ∷ ms) (lineStep k t l)
 unfolding readLines after
 reads-on k t l m ms = refl
 
-reads-none : (k : ℕ) (t : Listing) → readLines k t [] ≡ refused Place k
+pub reads-none : (k : ℕ) (t : Listing) → readLines k t [] ≡ refused Place k
 unfolding readLines
 reads-none k t = refl
 
-reads-last : (k : ℕ) (t : Listing) (l : List ℕ) → readLines k t (l ∷ []) ≡ unended k l
+pub reads-last : (k : ℕ) (t : Listing) (l : List ℕ) → readLines k t (l ∷ []) ≡ unended k l
 unfolding readLines
 reads-last k t l = refl
 

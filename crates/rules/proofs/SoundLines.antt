@@ -1,5 +1,5 @@
 -- What a line that is read says: a head within 01's limits, and a row or a dichotomy within the head's numbers.
-use mathlib.Core.Path.{_≡_, subst}
+use mathlib.Core.Path.{_≡_, sym, ap, subst}
 use mathlib.Core.Bool.{true, _&&_}
 use mathlib.Core.List.{List}
 use Prim.Native.Nat.{ℕ, _^_, _≤_, _<_}
@@ -150,6 +150,16 @@ row-sound h count line l r e =
     let c = chose-first (five && fits) e (row-not BadLine r) in
     let k = row-checked count row r (c .1) in
     (k .0, subst (SoundRow h) (k .3) (row-fits h line (fieldAt l 1) (fieldAt l 2) (fieldAt l 3) (fieldAt l 4) (and-second five fits (c .0)) (k .1) (k .2)))
+
+-- and keeps its line
+pub row-line : (h : Head) (count line : ℕ) (l : List ℕ) (r : Row) → rowLine h count line l ≡ RowLine.Read r → r .line ≡ line
+unfolding rowLine
+row-line h count line l r e =
+    let five = eqb (length (fieldsOf l)) 5 in
+    let fits = rowFits h (fieldAt l 1) (fieldAt l 2) (fieldAt l 3) (fieldAt l 4) in
+    let row = rowOf line (fieldAt l 1) (fieldAt l 2) (fieldAt l 3) (fieldAt l 4) in
+    let c = chose-first (five && fits) e (row-not BadLine r) in
+    ap (λ (x : Row). x .line) (sym (row-checked count row r (c .1) .3))
 
 -- ---- a dichotomy's line
 
