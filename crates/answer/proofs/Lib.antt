@@ -1,0 +1,3 @@
+pub mod Minus
+pub mod Refused
+pub mod Answered

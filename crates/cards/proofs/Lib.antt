@@ -1,0 +1,11 @@
+pub mod Limits
+pub mod Tables
+pub mod Dealing
+pub mod States
+pub mod Rows
+pub mod BlockTable
+pub mod Laying
+pub mod Numbers
+pub mod Drawn
+pub mod Twin
+pub mod FairListings

@@ -1,0 +1,77 @@
+-- Requirements as cards: where each block stands in the table of blocks, and a card for each requirement, in 01's order.
+use mathlib.Core.Bool.{Bool, true, false, _&&_, not, cond}
+use mathlib.Core.Path.{_≡_}
+use mathlib.Core.List.{List, [], _∷_, _++_, map}
+use Prim.Native.Nat.{ℕ, zero, suc, _+_, _-_, _*_, _≤_, _<_}
+use lib.Dec.{leb, ltb}
+use lib.ListN.{length, getD, take, drop}
+use Rattle.sets.specs.Sets.{only, size, statesFrom}
+use Rattle.rules.specs.Listing.{noRow, noRequirement, rowsOf, dichotomiesOf}
+use Rattle.rules.specs.Requirements.{outside, stood}
+use Rattle.rules.specs.declared.Row.{Row}
+use Rattle.rules.specs.declared.Requirement.{Requirement}
+use Rattle.rules.specs.declared.Listing.{Listing}
+
+-- The block of state s alone stands at s; the group of row r at 64 + r; the blocks of dichotomy d at 192 + 2 d and behind it.
+abbrev pub groupPlace : ℕ → ℕ
+groupPlace r = 64 + r
+
+abbrev pub firstPlace : ℕ → ℕ
+firstPlace d = 192 + 2 * d
+
+abbrev pub secondPlace : ℕ → ℕ
+secondPlace d = 193 + 2 * d
+
+-- the table holds the blocks of a listing
+pub record Laid (t : Listing) (blocks : List ℕ) : Type 0 where
+  pub singles : (s : ℕ) → s < t .head .states → getD blocks s 0 ≡ only s
+  pub groups : (r : ℕ) → r < length (rowsOf t) → getD blocks (groupPlace r) 0 ≡ getD (rowsOf t) r noRow .group
+  pub firsts : (d : ℕ) → d < length (dichotomiesOf t) → getD blocks (firstPlace d) 0 ≡ getD (dichotomiesOf t) d noRequirement .first
+  pub seconds : (d : ℕ) → d < length (dichotomiesOf t) → getD blocks (secondPlace d) 0 ≡ getD (dichotomiesOf t) d noRequirement .second
+
+-- a card but for its number: its two blocks' places
+abbrev pub placed : ℕ → ℕ → ℕ
+placed f g = f * 16384 + g * 8388608
+
+-- a block with each of some states
+abbrev pub withStates : ℕ → List ℕ → List ℕ
+withStates f ss = map (placed f) ss
+
+unfoldable pub pairCards : List ℕ → List ℕ
+pairCards [] = []
+pairCards (i ∷ js) = withStates i js ++ pairCards js
+
+-- the group g of a row asks: it has 2 to n - 1 states and hasn't stood in an earlier row
+abbrev pub asksNew : ℕ → ℕ → List ℕ → Bool
+asksNew n g earlier = leb 2 (size g) && ltb (size g) n && not (stood g earlier)
+
+-- what row r asks, behind rows with the earlier groups
+abbrev pub rowCards : ℕ → ℕ → List ℕ → Row → List ℕ
+rowCards n r earlier x = cond (asksNew n (x .group) earlier) (withStates (groupPlace r) (outside (x .group) (statesFrom 0 n))) []
+
+unfoldable pub groupCards : ℕ → ℕ → List ℕ → List Row → List ℕ
+unfolding outside stood statesFrom
+groupCards n r earlier [] = []
+groupCards n r earlier (x ∷ xs) = rowCards n r earlier x ++ groupCards n (r + 1) (x .group ∷ earlier) xs
+
+-- k dichotomies from number d on
+unfoldable pub dichotomyCards : ℕ → ℕ → List ℕ
+dichotomyCards d zero = []
+dichotomyCards d (suc k) = placed (firstPlace d) (secondPlace d) ∷ dichotomyCards (d + 1) k
+
+unfoldable pub cardsOf : Listing → List ℕ
+unfolding pairCards groupCards dichotomyCards statesFrom
+cardsOf t =
+    pairCards (statesFrom 0 (t .head .states))
+    ++ (groupCards (t .head .states) 0 [] (rowsOf t) ++ dichotomyCards 0 (length (dichotomiesOf t)))
+
+-- numbered from k
+unfoldable pub numbered : ℕ → List ℕ → List ℕ
+numbered k [] = []
+numbered k (c ∷ cs) = (k + c) ∷ numbered (k + 1) cs
+
+-- the pile has k cards, numbered from 0
+pub record Pile (cards : List ℕ) (k : ℕ) (cs : List ℕ) : Type 0 where
+  pub count : k ≡ length cs
+  pub room : length cs ≤ length cards
+  pub dealt : take k cards ≡ numbered 0 cs

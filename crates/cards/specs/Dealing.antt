@@ -1,0 +1,28 @@
+-- What one step of the drawing does: some cards are dealt from a place of the pile on, each with its number.
+use mathlib.Core.Path.{_≡_}
+use mathlib.Core.List.{List, [], _∷_}
+use Prim.Native.Nat.{ℕ, zero, suc, _+_, _≤_}
+use lib.ListN.{length, getD}
+use lib.Seq.{sets}
+use Rattle.rules.specs.Listing.{noRow}
+use Rattle.rules.specs.declared.Row.{Row}
+use Rattle.cards.specs.Cards.{numbered}
+
+-- the most cards of a listing
+abbrev pub most-cards : ℕ
+most-cards = 4400
+
+-- the cards cs are dealt from place k on, and r is the next place; the rest of the pile is as it was
+pub record Dealt (before : List ℕ) (k : ℕ) (cs : List ℕ) (after : List ℕ) (r : ℕ) : Type 0 where
+  pub next : r ≡ k + length cs
+  pub pile : after ≡ sets before k (numbered k cs)
+
+-- there is room for the cards cs from place k on
+pub record Room (pile : List ℕ) (k : ℕ) (cs : List ℕ) : Type 0 where
+  pub few : k + length cs ≤ most-cards
+  pub long : most-cards ≤ length pile
+
+-- the groups of the rows before row r, the last of them first
+unfoldable pub earlierGroups : List Row → ℕ → List ℕ
+earlierGroups rows zero = []
+earlierGroups rows (suc r) = getD rows r noRow .group ∷ earlierGroups rows r

@@ -1,0 +1,4 @@
+pub mod Fair
+pub mod Cards
+pub mod Dealing
+pub mod BlockTable

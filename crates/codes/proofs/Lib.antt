@@ -1,0 +1,11 @@
+pub mod Lists
+pub mod Sifting
+pub mod Live
+pub mod FirstMet
+pub mod Notes
+pub mod Judgement
+pub mod Building
+pub mod NextBit
+pub mod Running
+pub mod Encoded
+pub mod Counters

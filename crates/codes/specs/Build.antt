@@ -1,0 +1,49 @@
+-- What the functions that build a code promise each other.
+use mathlib.Core.Path.{_≡_}
+use mathlib.Core.Bool.{Bool, true, false}
+use mathlib.Core.List.{List, _++_, map}
+use Prim.Native.Nat.{ℕ, _≤_, _<_}
+use lib.ListN.{length, getD, drop, replicate}
+use Rattle.rules.specs.Limits.{most-bits}
+use Rattle.rules.specs.OneBit.{newBit}
+use Rattle.rules.specs.Code.{Code, Coding, coded, uncoded, build, unmetFrom}
+use Rattle.rules.specs.declared.Requirement.{Requirement}
+use Rattle.rules.specs.declared.Refusal.the-variants.{Stalled}
+use Rattle.passes.specs.Moves.{numberOf, drawn}
+use Rattle.passes.proofs.Ready.{Ready}
+use Rattle.codes.specs.Sift.{liveCards, sifted, noted}
+use Rattle.codes.specs.Encode.{most-asked, no-bit, padded, metFirst}
+
+-- the next bit for some live cards, as number k, and what it makes of the cards and of the notes
+pub record AddedBit (blocks : List ℕ) (n k : ℕ) (cards by : List ℕ) (bit left passes looks : ℕ) (cards′ by′ : List ℕ) : Type 0 where
+  pub is : bit ≡ newBit n (drawn blocks cards) .bit
+  pub took : passes ≡ newBit n (drawn blocks cards) .passes
+  pub looked : looks ≡ newBit n (drawn blocks cards) .looks
+  pub leaves : left ≡ length (liveCards blocks bit cards)
+  pub sifts : cards′ ≡ sifted blocks bit cards
+  pub notes : by′ ≡ noted blocks bit k cards by
+
+-- a run of bits begins: a card for each requirement, numbered from 0, nothing noted, and room for the bits
+pub record Begun (blocks : List ℕ) (n most : ℕ) (cards by bits : List ℕ) : Type 0 where
+  pub ready : Ready n (drawn blocks cards)
+  pub few : length cards ≤ most-asked
+  pub numbers : (i : ℕ) → i < length cards → numberOf (getD cards i 0) ≡ i
+  pub width : most ≤ most-bits
+  pub room : length bits ≡ most-bits
+  pub blank : by ≡ replicate most-asked no-bit
+
+-- it came to the code of 01
+pub record Done (n most : ℕ) (rs : List Requirement) (bits : List ℕ) (width live passes looks : ℕ) (bits′ by′ : List ℕ) : Type 0 where
+  pub code : Code
+  pub built : build most n rs ≡ coded code
+  pub wide : width ≡ length (code .bits)
+  pub left : live ≡ length (unmetFrom 0 n (code .bits) rs)
+  pub took : passes ≡ code .passes
+  pub looked : looks ≡ code .looks
+  pub shown : bits′ ≡ code .bits ++ drop (length (code .bits)) bits
+  pub noted : by′ ≡ padded most-asked no-bit (map (metFirst 0 n (code .bits)) rs)
+
+-- or it stalled, as 01 says
+abbrev pub Outcome : ℕ → ℕ → List Requirement → List ℕ → Bool → ℕ → ℕ → ℕ → ℕ → List ℕ → List ℕ → Type 0
+Outcome n most rs bits true width live passes looks bits′ by′ = build most n rs ≡ uncoded Stalled
+Outcome n most rs bits false width live passes looks bits′ by′ = Done n most rs bits width live passes looks bits′ by′

@@ -1,0 +1,67 @@
+-- What the encoder answers for a listing: 01's code, with the bit that first met each requirement.
+use mathlib.Core.Bool.{Bool, true, false, cond, not, _&&_}
+use mathlib.Core.List.{List, [], _∷_, _++_, map}
+use Prim.Native.Nat.{ℕ, zero, suc, _+_, _-_}
+use lib.Dec.{ltb, eqb}
+use lib.ListN.{length, getD, replicate}
+use Rattle.rules.specs.Limits.{most-bits}
+use Rattle.rules.specs.Requirements.{met, requirements}
+use Rattle.rules.specs.Code.{Code, Coding, coded, uncoded, coding}
+use Rattle.rules.specs.declared.Requirement.{Requirement}
+use Rattle.rules.specs.declared.RequirementNumber.{RequirementNumber}
+use Rattle.rules.specs.declared.Listing.{Listing}
+use Rattle.rules.specs.declared.Encoding.{Encoding}
+use Rattle.rules.specs.declared.Verdict.{Verdict}
+use Rattle.rules.specs.declared.Refusal.{Refusal}
+use Rattle.rules.specs.declared.Refusal.the-variants.{Limit}
+use Rattle.cards.specs.Fair.{fair}
+
+-- the most requirements, and what is noted for one that no bit meets
+abbrev pub most-asked : ℕ
+most-asked = 4400
+
+abbrev pub no-bit : ℕ
+no-bit = 255
+
+-- the number of the first bit that meets r, where the first of the list has the number k
+unfoldable pub metFirst : ℕ → ℕ → List ℕ → Requirement → ℕ
+unfolding met
+metFirst k n [] r = no-bit
+metFirst k n (b ∷ bs) r = cond (met n r b) k (metFirst (k + 1) n bs r)
+
+-- a list filled up to w places
+abbrev pub padded : ℕ → ℕ → List ℕ → List ℕ
+padded w v l = l ++ replicate (w - length l) v
+
+unfoldable pub noEncoding : Verdict → Encoding
+noEncoding v = record {
+  verdict = v;
+  width = 0;
+  bits = replicate most-bits 0;
+  asked = 0;
+  by = replicate most-asked no-bit;
+  passes = 0;
+  looks = 0;
+}
+
+unfoldable pub encodedAs : Listing → Coding → Encoding
+unfolding noEncoding metFirst requirements
+encodedAs t (coded c) = record {
+  verdict = Verdict.Accepted;
+  width = length (c .bits);
+  bits = padded most-bits 0 (c .bits);
+  asked = length (requirements t);
+  by = padded most-asked no-bit (map (metFirst 0 (t .head .states) (c .bits)) (requirements t));
+  passes = c .passes;
+  looks = c .looks;
+}
+encodedAs t (uncoded r) = noEncoding (Verdict.Refused r 0)
+
+-- a listing that is not within the limits, as no reader gives one, is refused 2 at line 0
+unfoldable pub encoded : Listing → Encoding
+unfolding fair encodedAs noEncoding coding
+encoded t = cond (fair t) (encodedAs t (coding t)) (noEncoding (Verdict.Refused Limit 0))
+
+-- the judgement of one requirement against the code
+unfoldable pub metBy : Encoding → RequirementNumber → Bool
+metBy e r = ltb (r .0) (e .asked) && not (eqb (getD (e .by) (r .0) no-bit) no-bit)

@@ -1,0 +1,3 @@
+pub mod Sift
+pub mod Encode
+pub mod Build

@@ -1,0 +1,13 @@
+-- `faces::next_byte` meets its contract.
+use Rattle.faces.proofs.Rows.{next-nought, next-one}
+use Rattle.faces.proofs.next_byte.Statement.{statement}
+use Rattle.faces.proofs.next_byte.Tie as tie
+
+returns : tie.Need-returns
+returns c = next-nought _ _ (c .if1 .taken)
+
+returns-2 : tie.Need-returns-2
+returns-2 c = next-one _ _ (c .if1 .left)
+
+pub next-byte-spec : {M : Type 1} → statement M
+next-byte-spec = tie.close (tie.spec returns returns-2)

@@ -1,0 +1,73 @@
+// The scan for two rows that clash.
+ghost use mathlib.Core.Path.{_≡_};
+ghost use Prim.Native.Nat.{min};
+ghost use Rattle.rules.specs.Limits.{most-rows};
+ghost use Rattle.rules.specs.Listing.{shareInput, clash, conflict, rowsOf};
+use rules::Listing;
+use rules::Refusal;
+use rules::Row;
+use rules::Verdict;
+
+// The 16 digits of a pattern that are inputs.
+const INPUTS: u32 = 65535;
+
+// Whether two rows share an input vector: at no input does one say 0 and the other 1.
+fn share_input(a: Row, b: Row) -> bool
+    ensures { λ r. ⌜ r ≡ shareInput a b ⌝ }
+{
+    let unlike = a.input.ones ^ b.input.ones;
+    let free = a.input.dashes | b.input.dashes;
+    unlike & !free & INPUTS == 0
+}
+
+// Whether two rows share an input vector and a state and name different next states.
+fn clashes(a: Row, b: Row) -> bool
+    ensures { λ r. ⌜ r ≡ clash a b ⌝ }
+{
+    if !share_input(a, b) {
+        return false;
+    }
+    if a.group & b.group == 0 {
+        return false;
+    }
+    if a.next == 0 {
+        return false;
+    }
+    if b.next == 0 {
+        return false;
+    }
+    a.next != b.next
+}
+
+// How many rows stand in a table that is said to have so many.
+fn within_table(rows: usize) -> usize
+    ensures { λ r. ⌜ r ≡ min rows most-rows ⌝ }
+{
+    if rows <= rules::MOST_ROWS {
+        return rows;
+    }
+    rules::MOST_ROWS
+}
+
+// The first pair of rows that clash, by the earlier row and then the later one: refused at the later row's line.
+pub fn first_clash(t: Listing) -> Verdict
+    ensures { λ r. ⌜ r ≡ conflict (rowsOf t) ⌝ }
+{
+    let n = within_table(t.rows);
+    let mut found = Verdict::Accepted;
+    let mut i: usize = 0;
+    'pairs: while i < n {
+        let a = t.table[i];
+        let mut j = i + 1;
+        while j < n {
+            let b = t.table[j];
+            if clashes(a, b) {
+                found = Verdict::Refused(Refusal::Conflict, b.line);
+                break 'pairs;
+            }
+            j += 1;
+        }
+        i += 1;
+    }
+    found
+}

@@ -1,0 +1,92 @@
+// Writers: each writes a text into a lent buffer from `at` on, and answers the place behind it. What falls behind the buffer's end is lost,
+// so a run on a small buffer tells the length. A place past the last that a number can say is the last one.
+ghost use mathlib.Core.Path.{_≡_};
+ghost use mathlib.Core.List.{[], _∷_, _++_};
+ghost use Prim.Native.Nat.{_+_, min};
+ghost use Rattle.sets.specs.Sets.{has};
+ghost use Rattle.rules.specs.Text.{nought, decimal};
+ghost use Rattle.pen.specs.Pen.{lastPlace, Wrote, digitsText};
+
+// The place behind `at`.
+fn behind(at: usize) -> usize
+    ensures { λ r. ⌜ r ≡ min (at + 1) lastPlace ⌝ }
+{
+    if at < 18446744073709551615 {
+        return at + 1;
+    }
+    at
+}
+
+pub fn put_byte(out: &mut [u8], at: usize, b: u8) -> usize
+    ensures { λ r. ⌜ Wrote (now (out .entry)) at (b ∷ []) r (now (out .exit)) ⌝ }
+{
+    if out.len() <= at {
+        return behind(at);
+    }
+    out[at] = b;
+    behind(at)
+}
+
+pub fn put_bytes(out: &mut [u8], at: usize, s: &[u8]) -> usize
+    ensures { λ r. ⌜ Wrote (now (out .entry)) at (now (s .entry)) r (now (out .exit)) ⌝ }
+{
+    let mut i: usize = 0;
+    let mut to = at;
+    while i < s.len() {
+        to = put_byte(out, to, s[i]);
+        i += 1;
+    }
+    to
+}
+
+// A number in decimal: the digits before the last, and the last.
+pub fn put_number(out: &mut [u8], at: usize, v: u64) -> usize
+    ensures { λ r. ⌜ Wrote (now (out .entry)) at (decimal v) r (now (out .exit)) ⌝ }
+{
+    if v < 10 {
+        return put_byte(out, at, 48 + v as u8);
+    }
+    let to = put_number(out, at, v / 10);
+    put_byte(out, to, 48 + (v % 10) as u8)
+}
+
+// A number, and the byte that ends its field.
+pub fn put_field(out: &mut [u8], at: usize, v: u64, end: u8) -> usize
+    ensures { λ r. ⌜ Wrote (now (out .entry)) at (decimal v ++ (end ∷ [])) r (now (out .exit)) ⌝ }
+{
+    let to = put_number(out, at, v);
+    put_byte(out, to, end)
+}
+
+// Digit s of m as a character; a digit past the mask's width is 0.
+pub fn digit_byte(m: u64, s: usize) -> u8
+    ensures { λ r. ⌜ r ≡ nought + has m s ⌝ }
+{
+    if sets::member(m, s) {
+        return 49;
+    }
+    48
+}
+
+// The lowest n digits of m as characters, the lowest first.
+pub fn put_digits(out: &mut [u8], at: usize, m: u64, n: usize) -> usize
+    ensures { λ r. ⌜ Wrote (now (out .entry)) at (digitsText m n) r (now (out .exit)) ⌝ }
+{
+    let mut i: usize = 0;
+    let mut to = at;
+    while i < n {
+        to = put_byte(out, to, digit_byte(m, i));
+        i += 1;
+    }
+    to
+}
+
+// How many of n elements an array of `most` has.
+pub fn at_most(n: usize, most: usize) -> usize
+    ensures { λ r. ⌜ r ≡ min n most ⌝ }
+{
+    if n < most {
+        return n;
+    }
+    most
+}

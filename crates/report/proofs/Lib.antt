@@ -1,0 +1,4 @@
+pub mod Lines
+pub mod Unmet
+pub mod Same
+pub mod Length

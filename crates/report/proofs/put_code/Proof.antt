@@ -1,0 +1,31 @@
+-- `report::put_code` meets its contract: a code of no bits is one dash.
+use borrow.Author.Needs.{needs}
+use Rattle.pen.proofs.Laws.{wrote-as}
+use Rattle.report.proofs.Lines.{code-none, code-some}
+use Rattle.report.proofs.put_code.Statement.{statement}
+use Rattle.report.proofs.put_code.Tie as tie
+
+put-byte-requires : tie.Need-put-byte-requires
+put-byte-requires c κs = search needs
+
+same-length : tie.Need-same-length
+same-length c = search needs
+
+returns : tie.Need-returns
+returns c =
+    wrote-as (c .before .before .put-byte .ensures) (code-none (c .before .before .before .before .before .before .before .args .bits .now) (c .before .before .before .before .before .before .before .args .s .0) (c .before .before .before .before .if1 .taken))
+
+put-values-requires : tie.Need-put-values-requires
+put-values-requires c κs = search needs
+
+same-length-2 : tie.Need-same-length-2
+same-length-2 c = search needs
+
+returns-2 : tie.Need-returns-2
+returns-2 c =
+    wrote-as (c .before .before .put-values .ensures) (code-some (c .before .before .before .before .before .before .before .args .bits .now) (c .before .before .before .before .before .before .before .args .s .0) (c .before .before .before .before .if1 .left))
+
+pub put-code-spec : {M : Type 1} → statement M
+put-code-spec =
+    tie.close
+    (tie.spec put-byte-requires same-length returns put-values-requires same-length-2 returns-2)

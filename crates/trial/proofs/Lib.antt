@@ -1,0 +1,12 @@
+pub mod Pairs
+pub mod Startable
+pub mod Movable
+pub mod Stored
+pub mod Deck
+pub mod Made
+pub mod Levels
+pub mod Outside
+pub mod Listed
+pub mod Fair
+pub mod Shown
+pub mod Calls

@@ -1,0 +1,98 @@
+-- The records that code makes step by step are those of the definitions.
+use mathlib.Core.Path.{_≡_, sym, ap, ap₂, _∙_}
+use mathlib.Core.Bool.{Bool, true, false, cond}
+use mathlib.Core.List.{List}
+use Prim.Native.Nat.{ℕ, _+_, _%_, _^_, _≤_, _<_}
+use native.Mathlib.Omega.{arith}
+use lib.IntN.{pos, subℕ}
+use lib.ListN.{length, take, getD, replicate}
+use lib.Seq.{sets}
+use borrow.Author.Tests.{lt-ltb, le-ltb}
+use Rattle.sets.specs.Sets.{flip}
+use Rattle.rules.specs.Trial.{startable}
+use Rattle.rules.specs.declared.StateNumber.{StateNumber}
+use Rattle.passes.specs.Table.{level}
+use Rattle.passes.specs.Moves.{drawn, filled, moved, looked}
+use Rattle.trial.specs.declared.Trial.{Trial}
+use Rattle.trial.specs.declared.Answer.{Answer}
+use Rattle.trial.specs.Record.{taken, turnedDown, deck, blocksOf, none, shown, startOf, askedOf, movable, nextOf, moveOf, gainOf}
+use Rattle.trial.proofs.Startable.{startable-has}
+use Rattle.trial.proofs.Movable.{movable-has}
+
+-- two lists stored in a table of empty blocks
+pub blocks-made : (fs gs none one both : List ℕ) → none ≡ replicate 512 0 → one ≡ sets none 0 fs → both ≡ sets one 256 gs → both ≡ blocksOf fs gs
+unfolding blocksOf
+blocks-made fs gs none one both p q r = r ∙ ap (λ (t : List ℕ). sets t 256 gs) (q ∙ ap (λ (t : List ℕ). sets t 0 fs) p)
+
+-- a record that nothing has moved in, with the blocks, the cards and the table that code made
+abbrev begun : ℕ → ℕ → ℕ → List ℕ → List ℕ → List ℕ → Trial
+begun n k b blocks cards table = record { states = n; count = k; bit = b; moved = 0; looks = 0; blocks = blocks; cards = cards; table = table }
+
+pub none-made : (blocks : List ℕ) → blocks ≡ replicate 512 0 → begun 0 0 0 blocks (replicate 256 0) (replicate 64 level) ≡ none
+unfolding none
+none-made blocks e = ap (λ (bs : List ℕ). begun 0 0 0 bs (replicate 256 0) (replicate 64 level)) e
+
+pub shown-made : (n b : ℕ) (fs gs blocks cards table : List ℕ) → blocks ≡ blocksOf fs gs → cards ≡ deck
+    → table ≡ filled (drawn blocks (take (length fs) cards)) b (replicate 64 level) → begun n (length fs) b blocks cards table ≡ shown n b fs gs
+unfolding shown
+shown-made n b fs gs blocks cards table p q r =
+    ap (begun n (length fs) b blocks cards) r
+    ∙ ap₂ (λ (bs cs : List ℕ). begun n (length fs) b bs cs (filled (drawn bs (take (length fs) cs)) b (replicate 64 level))) p q
+
+-- a start, by what the test of it said
+module _ (n b : ℕ) (fs gs : List ℕ) (said : Bool) (tested : said ≡ startable n b fs gs) where
+  pub start-room : said ≡ true → (length fs ≤ 256) × (length gs ≤ 256)
+  start-room e = let h = startable-has n b fs gs (sym tested ∙ e) in (h .few, omega (arith, h .few, h .like))
+
+  pub start-taken : (t : Trial) (r : Answer) → said ≡ true → t ≡ shown n b fs gs → r ≡ taken t → r ≡ startOf n b fs gs
+  unfolding startOf
+  start-taken t r e p q = q ∙ ap taken p ∙ sym (ap (λ (c : Bool). cond c (taken (shown n b fs gs)) (turnedDown none)) (sym tested ∙ e))
+
+  pub start-refused : (t : Trial) (r : Answer) → said ≡ false → t ≡ none → r ≡ turnedDown t → r ≡ startOf n b fs gs
+  unfolding startOf
+  start-refused t r e p q = q ∙ ap turnedDown p ∙ sym (ap (λ (c : Bool). cond c (taken (shown n b fs gs)) (turnedDown none)) (sym tested ∙ e))
+
+-- the record of a move
+module _ (t : Trial) (s : ℕ) where
+  -- with the bit, the states that have moved, the looks and the table that the move leaves
+  abbrev after : ℕ → ℕ → ℕ → List ℕ → Trial
+  after a m l table = record {
+    states = t .states;
+    count = t .count;
+    bit = a;
+    moved = m;
+    looks = l;
+    blocks = t .blocks;
+    cards = t .cards;
+    table = table;
+  }
+
+  pub next-made : (a m l k : ℕ) (table : List ℕ) → a ≡ flip (t .bit) s → m ≡ flip (t .moved) s
+      → k ≡ looked (askedOf t) (t .bit) a s → table ≡ moved (askedOf t) (t .bit) a s (t .table) → l ≡ (t .looks + k) % 2 ^ 64
+      → after a m l table ≡ nextOf t s
+  unfolding nextOf
+  next-made a m l k table p q e f g = cc
+
+-- a move, by what the test of it said
+module _ (t : Trial) (s : StateNumber) (said : Bool) (tested : said ≡ movable (t .states) (t .count) (t .moved) (s .0)) where
+  pub move-room : said ≡ true → (t .count ≤ 256) × (s .0 < 64)
+  move-room e = let h = movable-has (t .states) (t .count) (t .moved) (s .0) (sym tested ∙ e) in (h .few, omega (arith, h .state, h .few-states))
+
+  pub move-taken : (u : Trial) (r : Answer) → said ≡ true → u ≡ nextOf t (s .0) → r ≡ taken u → r ≡ moveOf t s
+  unfolding moveOf
+  move-taken u r e p q = q ∙ ap taken p ∙ sym (ap (λ (c : Bool). cond c (taken (nextOf t (s .0))) (turnedDown t)) (sym tested ∙ e))
+
+  pub move-refused : (r : Answer) → said ≡ false → r ≡ turnedDown t → r ≡ moveOf t s
+  unfolding moveOf
+  move-refused r e q = q ∙ sym (ap (λ (c : Bool). cond c (taken (nextOf t (s .0))) (turnedDown t)) (sym tested ∙ e))
+
+-- the gain that a record shows
+module _ (t : Trial) (s : StateNumber) where
+  pub gain-none : t .states ≤ s .0 → pos 0 ≡ gainOf t s
+  unfolding gainOf
+  gain-none h = sym (ap (λ (c : Bool). cond c (subℕ (getD (t .table) (s .0) 0) level) (pos 0)) (le-ltb (s .0) (t .states) h))
+
+  pub gain-read : (v : ℕ) → s .0 < t .states → v ≡ getD (t .table) (s .0) 0 → subℕ v level ≡ gainOf t s
+  unfolding gainOf
+  gain-read v h e =
+      ap (λ (w : ℕ). subℕ w level) e ∙ sym (ap (λ (c : Bool). cond c (subℕ (getD (t .table) (s .0) 0) level) (pos 0)) (lt-ltb (s .0) (t .states) h))

@@ -1,0 +1,122 @@
+-- The trial record as code holds it, and what a start and a move make of it, field by field, on any record at all.
+use mathlib.Core.Bool.{Bool, _&&_, cond}
+use mathlib.Core.List.{List, [], _∷_}
+use Prim.Native.Nat.{ℕ, zero, suc, _+_, _*_, _%_, _^_}
+use lib.Dec.{leb, ltb, eqb}
+use lib.ListN.{length, take, replicate, getD}
+use lib.Seq.{sets}
+use lib.IntN.{ℤ, pos, subℕ}
+use Rattle.sets.specs.Sets.{has, flip}
+use Rattle.rules.specs.Limits.{most-states, most-trial}
+use Rattle.rules.specs.Refusals.{number}
+use Rattle.rules.specs.Trial.{startable}
+use Rattle.rules.specs.declared.Requirement.{Requirement}
+use Rattle.rules.specs.declared.StateNumber.{StateNumber}
+use Rattle.rules.specs.declared.Verdict.{Verdict}
+use Rattle.rules.specs.declared.Refusal.the-variants.{BadCall}
+use Rattle.passes.specs.Table.{level}
+use Rattle.passes.specs.Moves.{drawn, filled, moved, looked}
+use Rattle.trial.specs.declared.Trial.{Trial}
+use Rattle.trial.specs.declared.Answer.{Answer}
+
+-- ---- what an answer is
+
+abbrev pub taken : Trial → Answer
+taken t = record { verdict = Verdict.Accepted; trial = t }
+
+abbrev pub turnedDown : Trial → Answer
+turnedDown t = record { verdict = Verdict.Refused BadCall 0; trial = t }
+
+-- 0 for a call that is accepted, else the number of its refusal
+abbrev pub numberOf : Verdict → ℕ
+numberOf Verdict.Accepted = 0
+numberOf (Verdict.Refused r line) = number r
+
+-- ---- a start
+
+-- requirement i has the first block i and the second block 256 + i
+abbrev pub cardOf : ℕ → ℕ
+cardOf i = i + i * 16384 + (256 + i) * 8388608
+
+-- k cards, the first of them i
+unfoldable pub cardsFrom : ℕ → ℕ → List ℕ
+cardsFrom i zero = []
+cardsFrom i (suc k) = cardOf i ∷ cardsFrom (suc i) k
+
+unfoldable pub deck : List ℕ
+unfolding cardsFrom
+deck = cardsFrom 0 256
+
+-- the first blocks from place 0 on, and the second from place 256 on
+unfoldable pub blocksOf : List ℕ → List ℕ → List ℕ
+blocksOf fs gs = sets (sets (replicate 512 0) 0 fs) 256 gs
+
+-- the empty record: no states, no requirements, no looks
+unfoldable pub none : Trial
+none = record {
+  states = 0;
+  count = 0;
+  bit = 0;
+  moved = 0;
+  looks = 0;
+  blocks = replicate 512 0;
+  cards = replicate 256 0;
+  table = replicate 64 level;
+}
+
+-- the record that shows a start: nothing has moved
+unfoldable pub shown : ℕ → ℕ → List ℕ → List ℕ → Trial
+unfolding deck blocksOf filled
+shown n b fs gs = record {
+  states = n;
+  count = length fs;
+  bit = b;
+  moved = 0;
+  looks = 0;
+  blocks = blocksOf fs gs;
+  cards = deck;
+  table = filled (drawn (blocksOf fs gs) (take (length fs) deck)) b (replicate 64 level);
+}
+
+-- a start: what cannot start hands back the empty record
+unfoldable pub startOf : ℕ → ℕ → List ℕ → List ℕ → Answer
+unfolding startable shown none
+startOf n b fs gs = cond (startable n b fs gs) (taken (shown n b fs gs)) (turnedDown none)
+
+-- ---- a move
+
+-- the requirements that a record lists
+abbrev pub askedOf : Trial → List Requirement
+askedOf t = drawn (t .blocks) (take (t .count) (t .cards))
+
+-- s can move in a record of n states and k requirements: both are within 01's limits, as in every record that a start gave, and s is
+-- below n and has not moved
+unfoldable pub movable : ℕ → ℕ → ℕ → ℕ → Bool
+movable n k moved s = leb n most-states && leb k most-trial && (ltb s n && eqb (has moved s) 0)
+
+-- the record after the move of s; the looks are a sum of 64 digits, which no record that a start gave comes near
+unfoldable pub nextOf : Trial → ℕ → Trial
+unfolding moved looked
+nextOf t s =
+    let a : ℕ = flip (t .bit) s in
+    record {
+      states = t .states;
+      count = t .count;
+      bit = a;
+      moved = flip (t .moved) s;
+      looks = (t .looks + looked (askedOf t) (t .bit) a s) % 2 ^ 64;
+      blocks = t .blocks;
+      cards = t .cards;
+      table = moved (askedOf t) (t .bit) a s (t .table);
+    }
+
+-- a move: where s cannot move, the same record
+unfoldable pub moveOf : Trial → StateNumber → Answer
+unfolding movable nextOf
+moveOf t s = cond (movable (t .states) (t .count) (t .moved) (s .0)) (taken (nextOf t (s .0))) (turnedDown t)
+
+-- ---- what a record shows
+
+-- each state's gain, moved states included; a number that is no state's has none
+unfoldable pub gainOf : Trial → StateNumber → ℤ
+gainOf t s = cond (ltb (s .0) (t .states)) (subℕ (getD (t .table) (s .0) 0) level) (pos 0)
