@@ -88,14 +88,13 @@ dealt-pile start cs after r room d =
     let fits : 0 + length (numbered 0 cs) ≤ length start = omega (arith, numbered-length 0 cs, room .few, room .long) in
     let whole : after ≡ numbered 0 cs ++ drop (0 + length (numbered 0 cs)) start = d .pile ∙ sets-eq (numbered 0 cs) start 0 fits in
     let long : length (numbered 0 cs) ≡ r = omega (arith, numbered-length 0 cs, d .next) in
-    let same : 0 + length (numbered 0 cs) ≡ r = omega arith in
-    (
+    let same : 0 + length (numbered 0 cs) ≡ r = omega arith in (
       record {
         count = omega (arith, d .next);
         room = omega (arith, room .few, room .long, ap length (d .pile), length-sets start 0 (numbered 0 cs));
         dealt = ap (take r) whole ∙ take-at (numbered 0 cs) (drop (0 + length (numbered 0 cs)) start) r long;
       },
       ap (drop r) whole
-      ∙ drop-at (numbered 0 cs) (drop (0 + length (numbered 0 cs)) start) r long
-      ∙ ap (λ (k : ℕ). drop k start) same,
+          ∙ drop-at (numbered 0 cs) (drop (0 + length (numbered 0 cs)) start) r long
+          ∙ ap (λ (k : ℕ). drop k start) same,
     )

@@ -79,8 +79,8 @@ module _ (blocks : List ℕ) (n : ℕ) (few : n ≤ 512) (singles : (s : ℕ) �
   groups-show m r earlier (x ∷ xs) h p e =
       map-append (requirementOf blocks) (rowCards m r earlier x) (groupCards m (r + 1) (x .group ∷ earlier) xs)
       ∙ ap₂ (λ (ys zs : List Requirement). ys ++ zs)
-          (row-shows m r earlier x h (omega arith) (e 0 r (omega arith) (omega arith)))
-          (groups-show m (r + 1) (x .group ∷ earlier) xs h (omega arith) (λ j k q l. e (suc j) k (omega arith) (omega arith)))
+      (row-shows m r earlier x h (omega arith) (e 0 r (omega arith) (omega arith)))
+      (groups-show m (r + 1) (x .group ∷ earlier) xs h (omega arith) (λ j k q l. e (suc j) k (omega arith) (omega arith)))
       ∙ sym (groups-step m earlier x xs)
 
 -- ---- dichotomies
@@ -94,7 +94,7 @@ dichotomies-show blocks d [] h f g = refl
 dichotomies-show blocks d (x ∷ xs) h f g =
     ap₂ {C = List Requirement} (λ y ys. y ∷ ys)
     (card-shows blocks (firstPlace d) (secondPlace d) (omega arith) (omega arith)
-        ∙ ap₂ asks (f 0 d (omega arith) (omega arith)) (g 0 d (omega arith) (omega arith)))
+    ∙ ap₂ asks (f 0 d (omega arith) (omega arith)) (g 0 d (omega arith) (omega arith)))
     (dichotomies-show blocks (d + 1) xs (omega arith)
     (λ j k e q. f (suc j) k (omega arith) (omega arith))
     (λ j k e q. g (suc j) k (omega arith) (omega arith)))
@@ -116,7 +116,7 @@ module _ (t : Listing) (w : Within t) (blocks : List ℕ) (l : Laid t blocks) wh
       let qs = dichotomies-show blocks 0 ds few-ds (λ j k e q. at firstPlace j k e ∙ l .firsts j q) (λ j k e q. at secondPlace j k e ∙ l .seconds j q) in
       map-append (requirementOf blocks) (pairCards (statesFrom 0 n)) (groupCards n 0 [] rows ++ dichotomyCards 0 (length ds))
       ∙ ap₂ (λ (xs ys : List Requirement). xs ++ ys) ps
-          (map-append (requirementOf blocks) (groupCards n 0 [] rows) (dichotomyCards 0 (length ds)) ∙ ap₂ (λ (xs ys : List Requirement). xs ++ ys) gs qs)
+      (map-append (requirementOf blocks) (groupCards n 0 [] rows) (dichotomyCards 0 (length ds)) ∙ ap₂ (λ (xs ys : List Requirement). xs ++ ys) gs qs)
       ∙ sym (append-assoc (pairs (statesFrom 0 n)) (groups n [] rows) ds)
     where
       at : (place : ℕ → ℕ) (j k : ℕ) → 0 + j ≡ k → getD blocks (place k) 0 ≡ getD blocks (place j) 0

@@ -117,6 +117,6 @@ grants-fair t f =
     let w = f .limits in
     fair-each t
     (limits-each t (le-leb 1 n (w .some-states)) (le-leb n most-states (w .few-states)) (le-leb (t .head .width) most-bits (w .few-bits)) (le-leb (t .rows) most-rows (w .few-rows))
-        ∙ le-leb (t .dichotomies) most-dichotomies (w .few-dichotomies))
+    ∙ le-leb (t .dichotomies) most-dichotomies (w .few-dichotomies))
     (at-each (groupWithin n) noRow (rowsOf t) (λ k h. lt-ltb _ (2 ^ n) (f .group k h)))
     ∙ at-each (blocksWithin n) noRequirement (dichotomiesOf t) (λ k h. grant-blocks n _ (f .dichotomy k h))

@@ -156,7 +156,7 @@ module _ (t : Listing) (f : Fair t) where
         few-rows = few-rows;
         table = filled-length most-rows noRow (map twinRow rows) (omega arith);
         row = λ k h. rw (List·getD-append (map twinRow rows) (replicate (most-rows - length (map twinRow rows)) noRow) noRow k (omega arith), map-at twinRow noRow noRow rows k h)
-        (twin-row (getD rows k noRow) (f .group k h));
+            (twin-row (getD rows k noRow) (f .group k h));
         few-dichotomies = few-ds;
         asked = filled-length most-dichotomies noRequirement ds few-ds;
         dichotomy = λ k h. rw (List·getD-append ds (replicate (most-dichotomies - length ds) noRequirement) noRequirement k h) (f .dichotomy k h);

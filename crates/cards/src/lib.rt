@@ -13,7 +13,6 @@ ghost use Rattle.cards.specs.Fair.{fair, each, groupWithin, blocksWithin
 ghost use Rattle.cards.specs.Cards.{Laid, placed, withStates, pairCards, asksNew, rowCards, groupCards, firstPlace, secondPlace, dichotomyCards, cardsOf, Pile};
 ghost use Rattle.cards.specs.BlockTable.{alone, groupsOf, sides, laidOut};
 ghost use Rattle.cards.specs.Dealing.{Dealt, Room, earlierGroups};
-
 use rules::Listing;
 use rules::Requirement;
 

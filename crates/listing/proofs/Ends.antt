@@ -35,7 +35,8 @@ some-behind [] h = absurd (h refl)
 some-behind (x ∷ xs) h = cond-behind (eqb x 10) x (split 10 xs) (split-some 10 xs)
 
 -- the bytes from a on
-pub ended-is : (k : ℕ) (t : Listing) (s : List ℕ) (a : ℕ) → ended k t (linesOf (drop a s)) ≡ cond (nothing (linesOf (part s a (length s)))) (accepted t) (refused Place (k + 1))
+pub ended-is : (k : ℕ) (t : Listing) (s : List ℕ) (a : ℕ)
+    → ended k t (linesOf (drop a s)) ≡ cond (nothing (linesOf (part s a (length s)))) (accepted t) (refused Place (k + 1))
 unfolding ended
 ended-is k t s a =
     let n : length (drop a s) ≤ length s - a = omega (arith, length-drop a s) in

@@ -63,8 +63,7 @@ loop-again : tie.Need-loop-again Inv-loop μ-loop
 loop-again c =
     let l = c .before .before .before .before in
     let t = l .before .args .t1 in
-    let holds : blocksWithin (t .head .states) (getD (t .asked) (l .loop .i) noRequirement) ≡ true = sym (c .before .blocks-within .ensures) ∙ not-false _ (c .if1 .left) in
-    (
+    let holds : blocksWithin (t .head .states) (getD (t .asked) (l .loop .i) noRequirement) ≡ true = sym (c .before .blocks-within .ensures) ∙ not-false _ (c .if1 .left) in (
       sym (each-goes (blocksWithin (t .head .states)) (t .asked) (t .dichotomies) (l .loop .i) noRequirement (c .before .before .before .loop-test .taken) (omega arith) holds) ∙ l .loop .inv .0,
       omega arith,
       l .loop .inv .2,

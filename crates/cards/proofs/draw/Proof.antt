@@ -55,8 +55,7 @@ groups-dealt c = ahead-goes (pairs-dealt (c .before .before .before .before)) _ 
 
 draw-pairs-requires : tie.Need-draw-pairs-requires
 draw-pairs-requires c κs =
-    let s = c .before .before in
-    (
+    let s = c .before .before in (
       within (s .args .t) (fair-limits (s .args .t) (s .pre .0)) .few-states,
       ahead-room (ahead-first (s .args .cards .now) 0 (three-parts s)) _ _ refl (room s),
     )
@@ -70,8 +69,7 @@ draw-groups-requires c κs =
 draw-dichotomies-requires : tie.Need-draw-dichotomies-requires
 draw-dichotomies-requires c κs =
     let y = c .before .before .before in
-    let s = y .before .before .before .before .before .before .before in
-    (
+    let s = y .before .before .before .before .before .before .before in (
       within (s .args .t) (fair-limits (s .args .t) (s .pre .0)) .few-dichotomies,
       ahead-room (groups-dealt y) _ _ (sym (append-nil _)) (room s),
     )

@@ -63,8 +63,7 @@ loop-again : tie.Need-loop-again Inv-loop μ-loop
 loop-again c =
     let l = c .before .before .before .before in
     let t = l .before .args .t1 in
-    let holds : groupWithin (t .head .states) (getD (t .table) (l .loop .i) noRow) ≡ true = sym (c .before .within .ensures) ∙ not-false _ (c .if1 .left) in
-    (
+    let holds : groupWithin (t .head .states) (getD (t .table) (l .loop .i) noRow) ≡ true = sym (c .before .within .ensures) ∙ not-false _ (c .if1 .left) in (
       sym (each-goes (groupWithin (t .head .states)) (t .table) (t .rows) (l .loop .i) noRow (c .before .before .before .loop-test .taken) (omega arith) holds) ∙ l .loop .inv .0,
       omega arith,
       l .loop .inv .2,

@@ -54,9 +54,9 @@ returns c =
     let s = x .before .before .before in
     let t = s .args .t in
     let whole : z .lay-dichotomies .last .1 .0 ≡ laidOut t (s .args .blocks .now) =
-        z .lay-dichotomies .ensures
-        ∙ ap (λ (l : List ℕ). sets l (firstPlace 0) (sides (dichotomiesOf t)))
-            (y .lay-groups .ensures ∙ ap (λ (l : List ℕ). sets l (groupPlace 0) (groupsOf (rowsOf t))) (x .lay-singles .ensures)) in
+    z .lay-dichotomies .ensures
+    ∙ ap (λ (l : List ℕ). sets l (firstPlace 0) (sides (dichotomiesOf t)))
+    (y .lay-groups .ensures ∙ ap (λ (l : List ℕ). sets l (groupPlace 0) (groupsOf (rowsOf t))) (x .lay-singles .ensures)) in
     (rw whole (laid t (s .args .blocks .now) (within t (s .pre .0)) (s .pre .1)), whole)
 
 pub lay-blocks-spec : {M : Type 1} → statement M

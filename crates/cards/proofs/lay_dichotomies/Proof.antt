@@ -72,8 +72,7 @@ loop-less c = search needs
 loop-again : tie.Need-loop-again Inv-loop μ-loop
 loop-again c =
     let l = c .before .before in
-    let t = l .before .args .t1 in
-    (
+    let t = l .before .args .t1 in (
       sym (sides-more (l .loop .blocks) (t .asked) (t .dichotomies) (l .loop .d) (omega arith) (omega (arith, l .before .pre .0, table-long (l .before)))) ∙ l .loop .inv .0,
       length-set (set (l .loop .blocks) _ _) _ _ ∙ length-set (l .loop .blocks) _ _ ∙ l .loop .inv .1,
     )

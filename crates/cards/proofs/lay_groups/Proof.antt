@@ -54,8 +54,7 @@ loop-less c = search needs
 loop-again : tie.Need-loop-again Inv-loop μ-loop
 loop-again c =
     let l = c .before .before in
-    let t = l .before .args .t1 in
-    (
+    let t = l .before .args .t1 in (
       sym (groups-more (l .loop .blocks) (t .table) (t .rows) (l .loop .r) (omega arith) (omega (arith, l .before .pre .0, table-long (l .before)))) ∙ l .loop .inv .0,
       length-set (l .loop .blocks) _ _ ∙ l .loop .inv .1,
     )

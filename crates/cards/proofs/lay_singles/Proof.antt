@@ -47,8 +47,7 @@ loop-again : tie.Need-loop-again Inv-loop μ-loop
 loop-again c =
     let l = c .before in
     let s : ℕ = l .loop .s in
-    let next : List ℕ → List ℕ = λ blocks. sets blocks (s + 1) (alone (statesFrom (s + 1) (l .before .args .n - (s + 1)))) in
-    (
+    let next : List ℕ → List ℕ = λ blocks. sets blocks (s + 1) (alone (statesFrom (s + 1) (l .before .args .n - (s + 1)))) in (
       ap (λ (v : ℕ). next (set (l .loop .blocks) s v)) (shl-one 64 s (omega (arith, l .before .pre .0)))
           ∙ sym (singles-more (l .loop .blocks) s (l .before .args .n) (omega arith))
           ∙ l .loop .inv .0,

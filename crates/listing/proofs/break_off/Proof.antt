@@ -24,7 +24,8 @@ refuse-requires-2 c κs = search needs
 returns-2 : tie.Need-returns-2
 returns-2 c =
     let p = c .before .before in
-    c .refuse2 .ensures ∙ sym (unended-some _ _ (p .before .before .if1 .left) (sym (ap (placed _) (p .before .mark-of .ensures)) ∙ sym (p .in-place .ensures) ∙ c .before .if2 .taken))
+    let m = sym (ap (placed _) (p .before .mark-of .ensures)) ∙ sym (p .in-place .ensures) in
+    c .refuse2 .ensures ∙ sym (unended-some _ _ (p .before .before .if1 .left) (m ∙ c .before .if2 .taken))
 
 refuse-requires-3 : tie.Need-refuse-requires-3
 refuse-requires-3 c κs = search needs
@@ -32,7 +33,8 @@ refuse-requires-3 c κs = search needs
 returns-3 : tie.Need-returns-3
 returns-3 c =
     let p = c .before .before in
-    c .refuse3 .ensures ∙ sym (unended-some _ _ (p .before .before .if1 .left) (sym (ap (placed _) (p .before .mark-of .ensures)) ∙ sym (p .in-place .ensures) ∙ c .before .if2 .left))
+    let m = sym (ap (placed _) (p .before .mark-of .ensures)) ∙ sym (p .in-place .ensures) in
+    c .refuse3 .ensures ∙ sym (unended-some _ _ (p .before .before .if1 .left) (m ∙ c .before .if2 .left))
 
 pub break-off-spec : {M : Type 1} → statement M
 break-off-spec =

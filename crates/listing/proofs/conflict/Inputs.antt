@@ -22,6 +22,9 @@ low-digit n x s h =
     let b : has (bitAnd x (2 ^ n - 1)) s ≡ min (has x s) (has (2 ^ n - 1) s) = has-and x (2 ^ n - 1) s in
     omega (arith, has-lt x s)
 
+empty-low : (n x : ℕ) → bitAnd x (2 ^ n - 1) ≡ 0 → every n (λ s. eqb (has x s) 0) ≡ true
+empty-low n x z = at-every n (λ s. eqb (has x s) 0) (λ s h. eq-eqb _ 0 (sym (low-digit n x s h) ∙ ap (λ (m : ℕ). has m s) z ∙ has-none s))
+
 -- they are all 0 exactly when the mask's rest is empty
 none-low : (n x : ℕ) → eqb (bitAnd x (2 ^ n - 1)) 0 ≡ every n (λ s. eqb (has x s) 0)
 none-low n x = go (every n (λ s. eqb (has x s) 0)) refl
@@ -30,11 +33,7 @@ none-low n x = go (every n (λ s. eqb (has x s) 0)) refl
     go true e =
         eq-eqb _ 0 (same-mask n (bitAnd x (2 ^ n - 1)) 0 (mask-lt x n) (pow-pos n)
         (λ s h. low-digit n x s h ∙ eqb-true _ 0 (every-at n (λ s. eqb (has x s) 0) e s h) ∙ sym (has-none s)))
-    go false e =
-        ne-eqb _ 0
-        (λ z. let w : every n (λ s. eqb (has x s) 0) ≡ true = at-every n (λ s. eqb (has x s) 0) (λ s h. eq-eqb _ 0 (sym (low-digit n x s h) ∙ ap (λ (m : ℕ). has m s) z ∙ has-none s)) in
-        let y : _≡_ {A = ℕ} 0 1 = cc in
-        omega arith)
+    go false e = ne-eqb _ 0 (λ z. let w = empty-low n x z in let y : _≡_ {A = ℕ} 0 1 = cc in omega arith)
 
 -- ---- one input
 

@@ -1,9 +1,6 @@
 -- `listing::refuse` meets its contract.
-use mathlib.Core.Path.{ap}
 use borrow.Author.Needs.{needs}
 use Rattle.rules.specs.Listing.{refused}
-use Rattle.rules.specs.declared.Listing.{Listing}
-use Rattle.rules.specs.declared.Reading.{Reading}
 use Rattle.rules.specs.declared.Verdict.{Verdict}
 use Rattle.listing.proofs.refuse.Statement.{statement}
 use Rattle.listing.proofs.refuse.Tie as tie
@@ -13,7 +10,7 @@ blank-listing-requires c κs = search needs
 
 returns : tie.Need-returns
 unfolding refused
-returns c = ap (λ (t : Listing). let q : Reading = record { verdict = Verdict.Refused (c .before .args .r) (c .before .args .line); listing = t } in q) (c .blank-listing .ensures)
+returns c = λ i. record { verdict = Verdict.Refused (c .before .args .r) (c .before .args .line); listing = c .blank-listing .ensures i }
 
 pub refuse-spec : {M : Type 1} → statement M
 refuse-spec = tie.close (tie.spec blank-listing-requires returns)

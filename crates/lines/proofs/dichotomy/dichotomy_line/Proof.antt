@@ -37,7 +37,8 @@ two c =
     let b = c .before .before .before in
     sym (b .before .field-count .ensures) ∙ b .if1 .left
 
-sized-field : (c : tie.Else2) → sized most-states (c .before .before .before .before .before .before .args .h .states) plus dash dot (now (c .before .before .field .result)) ≡ true
+sized-field : (c : tie.Else2)
+    → sized most-states (c .before .before .before .before .before .before .args .h .states) plus dash dot (now (c .before .before .field .result)) ≡ true
 sized-field c = sym (c .before .is-sized .ensures) ∙ not-false _ (c .if2 .left)
 
 returns-3 : tie.Need-returns-3

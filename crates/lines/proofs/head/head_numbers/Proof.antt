@@ -35,7 +35,8 @@ returns-3 c =
     let b = c .before .before in
     sym (head-ranges _ _ _ _ (states-in (b .before .before)) (inputs-in b) (sym (c .before .within3 .ensures) ∙ not-true _ (c .if3 .taken)) refl)
 
-outputs-in : (c : tie.Else3) → (leb 1 (c .before .before .before .before .before .before .args .o) && leb (c .before .before .before .before .before .before .args .o) most-outputs) ≡ true
+outputs-in : (c : tie.Else3)
+    → (leb 1 (c .before .before .before .before .before .before .args .o) && leb (c .before .before .before .before .before .before .args .o) most-outputs) ≡ true
 outputs-in c = sym (c .before .within3 .ensures) ∙ not-false _ (c .if3 .left)
 
 returns-4 : tie.Need-returns-4

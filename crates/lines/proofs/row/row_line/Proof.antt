@@ -35,7 +35,8 @@ returns-2 c =
     let g = n .before in
     let i = g .before in
     let five = sym (i .before .before .field-count .ensures) ∙ i .before .if1 .left in
-    sym (row-unfit _ _ _ _ five (i .field .ensures) (g .field2 .ensures) (n .field3 .ensures) (o .field4 .ensures) (sym (c .before .row-fits .ensures) ∙ not-true _ (c .if2 .taken)))
+    let unfit = sym (c .before .row-fits .ensures) ∙ not-true _ (c .if2 .taken) in
+    sym (row-unfit _ _ _ _ five (i .field .ensures) (g .field2 .ensures) (n .field3 .ensures) (o .field4 .ensures) unfit)
 
 row-of-requires : tie.Need-row-of-requires
 row-of-requires c κs = search needs
@@ -51,9 +52,10 @@ returns-3 c =
     let g = n .before in
     let i = g .before in
     let five = sym (i .before .before .field-count .ensures) ∙ i .before .if1 .left in
+    let fit = sym (f .before .row-fits .ensures) ∙ not-false _ (f .if2 .left) in
     c .row-checked .ensures
     ∙ ap (rowChecked _) (c .before .row-of .ensures)
-    ∙ sym (row-fit _ _ _ _ five (i .field .ensures) (g .field2 .ensures) (n .field3 .ensures) (o .field4 .ensures) (sym (f .before .row-fits .ensures) ∙ not-false _ (f .if2 .left)))
+    ∙ sym (row-fit _ _ _ _ five (i .field .ensures) (g .field2 .ensures) (n .field3 .ensures) (o .field4 .ensures) fit)
 
 pub row-line-spec : {M : Type 1} → statement M
 row-line-spec =

@@ -1,0 +1,44 @@
+-- `replies::is_ambiguous` meets its contract.
+use Rattle.replies.proofs.Sayings.{dichotomies-few, first-unmet}
+use lib.Dec.{leb}
+use lib.ListN.{length-take}
+use Prim.Native.Nat.{ℕ, zero, suc, _≤_, _<_, _-_, _+_, _*_, _^_}
+use mathlib.Core.Path.{_≡_, refl, sym, ap, _∙_}
+use mathlib.Core.Logic.{⊎-elim}
+use mathlib.Core.List.{List, [], _∷_, _++_}
+use mathlib.Core.Bool.{Bool, true, false}
+use native.Mathlib.Omega.{arith}
+use native.Mathlib.Numerals.{add-one}
+use borrow.Author.Needs.{needs}
+use borrow.Author.Tests.{lt-ltb, le-ltb, le-leb, lt-leb, eq-eqb, ne-eqb, not-true, not-false}
+use lib.ListN.{length, take, drop, getD, set}
+use Rattle.replies.proofs.is_ambiguous.Statement.{statement}
+use Rattle.replies.proofs.is_ambiguous.Tie as tie
+use Rattle.replies.proofs.is_ambiguous.Reads as reads
+use Rattle.replies.proofs.is_ambiguous.Lts as lts
+use Rattle.report.proofs.unmet_count.Reads as unmet-count-reads
+
+sub-first : tie.Need-sub-first
+sub-first c = dichotomies-few _ _ (c .before .before .before .pre)
+
+array-share-prefix-by : tie.Need-array-share-prefix-by
+array-share-prefix-by c = omega (arith, c .before .before .before .pre .few, c .before .before .before .pre .places)
+
+slice-aggregate-unmet-count : tie.Need-slice-aggregate-unmet-count
+slice-aggregate-unmet-count c = let s = c .before .before .before .before in omega (arith, length-take (s .args .e .asked - s .args .t .dichotomies) (s .args .e .by), s .pre .few, s .pre .places)
+
+unmet-count-requires : tie.Need-unmet-count-requires
+unmet-count-requires c κs = search needs
+
+returns : tie.Need-returns
+returns c = ap (leb 1) (c .unmet-count .ensures ∙ first-unmet _ _ (c .before .before .before .before .before .pre))
+
+pub is-ambiguous-spec : {M : Type 1} → statement M
+is-ambiguous-spec =
+    tie.close
+    (tie.spec
+    sub-first
+    array-share-prefix-by
+    slice-aggregate-unmet-count
+    unmet-count-requires
+    returns)

@@ -1,0 +1,33 @@
+-- What is said, and what the buffer then holds; and what an encoding is that both answers are written from.
+use mathlib.Core.Path.{_≡_}
+use mathlib.Core.Bool.{cond}
+use mathlib.Core.List.{List, _++_}
+use Prim.Native.Nat.{ℕ, _^_, _≤_, _<_}
+use lib.Dec.{leb}
+use lib.ListN.{length, drop}
+use Rattle.rules.specs.Limits.{most-bits}
+use Rattle.rules.specs.Code.{Code, coded, coding}
+use Rattle.rules.specs.Answers.{Reply, says, refuses}
+use Rattle.rules.specs.declared.Listing.{Listing}
+use Rattle.rules.specs.declared.Encoding.{Encoding}
+use Rattle.rules.specs.declared.Refusal.the-variants.{NoRoom}
+use Rattle.rules.proofs.Sound.{Sound}
+use Rattle.report.specs.Report.{Holds}
+use Rattle.replies.specs.declared.Said.{Said}
+
+-- The text where it fits, with the bytes behind it as they came; where not, 10, and where it is refused, that: the buffer is then as it came.
+unfoldable pub saying : Reply → List ℕ → Said × List ℕ
+saying (says text) out = cond (leb (length text) (length out)) (Said.Text (length text), text ++ drop (length text) out) (Said.Refused NoRoom 0, out)
+saying (refuses r line) out = (Said.Refused r line, out)
+
+-- an encoding that holds the code of a sound listing
+pub record Whole (t : Listing) (e : Encoding) : Type 0 where
+  pub sound : Sound t
+  pub code : Code
+  pub is : coding t ≡ coded code
+  pub holds : Holds t code e
+  pub narrow : e .width ≤ most-bits
+  pub few : e .asked ≤ 4400
+  pub places : length (e .by) ≡ 4400
+  pub few-passes : e .passes < 2 ^ 64
+  pub few-looks : e .looks < 2 ^ 64
