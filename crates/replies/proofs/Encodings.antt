@@ -71,7 +71,7 @@ module _ (t : Listing) (s : Sound t) where
         List·getD-append (map f (requirements t)) (replicate (most-asked - length (map f (requirements t))) no-bit) 0 k l ∙ map-at f (requirements t) k noRequirement 0 h in
         rw g (no-bit-unmet (t .head .states) (getD (requirements t) k noRequirement) (c .bits) (omega (arith, narrow)))
 
-    held : Holds t c (encodedAs t (coded c))
+    pub held : Holds t c (encodedAs t (coded c))
     unfolding encodedAs
     held = record {
       width = refl;
@@ -82,7 +82,7 @@ module _ (t : Listing) (s : Sound t) where
       looks = refl;
     }
 
-    whole-as : Whole t (encodedAs t (coded c))
+    pub whole-as : Whole t (encodedAs t (coded c))
     unfolding encodedAs
     whole-as = record {
       sound = s;

@@ -25,7 +25,7 @@ use Rattle.rules.specs.declared.Refusal.{Refusal}
 use Rattle.rules.specs.declared.Refusal.the-variants.{Unmet, NoRoom}
 use Rattle.rules.proofs.Sound.{Sound, accepted-sound, rows-length}
 use Rattle.codes.specs.Encode.{encoded}
-use Rattle.pen.specs.Pen.{lastPlace, Wrote}
+use Rattle.pen.specs.Pen.{Wrote}
 use Rattle.pen.proofs.Laws.{wrote-all, wrote-length}
 use Rattle.report.specs.Report.{unmetIn, encodedReport, Holds}
 use Rattle.report.proofs.Same.{same-report, same-unmet}
@@ -70,27 +70,27 @@ module _ (t : Listing) (s : Sound t) (out : List ℕ) (e : Encoding) (h : e ≡ 
 
 -- ---- a text, of which a first writing told the length n
 
-module _ {d text out a : List ℕ} {n : ℕ} (w : Wrote d 0 text n a) (few : length text ≤ lastPlace) where
+module _ {d text out a : List ℕ} {n : ℕ} (w : Wrote d 0 text n a) (few : length text < 100000) where
   pub no-space : length out < n → (Said.Refused NoRoom 0, out) ≡ saying (says text) out
   unfolding saying
-  no-space h = let l : length out < length text = omega (arith, wrote-length w few) in rw (lt-leb (length text) (length out) l) refl
+  no-space h = let l : length out < length text = omega (arith, wrote-length w (omega arith)) in rw (lt-leb (length text) (length out) l) refl
 
   pub written : {m : ℕ} {b : List ℕ} → n ≤ length out → Wrote out 0 text m b → (Said.Text n, b) ≡ saying (says text) out
   unfolding saying
   written h x =
-      let l : length text ≤ length out = omega (arith, wrote-length w few) in
-      rw (le-leb (length text) (length out) l) (ap₂ (λ (k : ℕ) (y : List ℕ). (Said.Text k, y)) (wrote-length w few) (wrote-all x l))
+      let l : length text ≤ length out = omega (arith, wrote-length w (omega arith)) in
+      rw (le-leb (length text) (length out) l) (ap₂ (λ (k : ℕ) (y : List ℕ). (Said.Text k, y)) (wrote-length w (omega arith)) (wrote-all x l))
 
 -- ---- of a code
 
 module _ (t : Listing) (e : Encoding) (w : Whole t e) where
-  pub report-few : length (encodedReport (t .head .states) e) ≤ lastPlace
+  pub report-few : length (encodedReport (t .head .states) e) < 100000
   report-few = omega (arith, report-length (t .head .states) e (w .sound .head .few-states) (w .narrow) (w .few) (w .few-passes) (w .few-looks))
 
   pub bounded : Bounded (t .head)
   bounded = record { inputs = w .sound .head .few-inputs; outputs = w .sound .head .few-outputs }
 
-  pub cover-few : length (cover t (take (e .width) (e .bits))) ≤ lastPlace
+  pub cover-few : length (cover t (take (e .width) (e .bits))) < 100000
   cover-few =
       omega (arith, cover-length t (take (e .width) (e .bits)) bounded (omega (arith, rows-length t (w .sound), w .sound .few-rows)) (omega (arith, length-take (e .width) (e .bits), w .narrow)))
 

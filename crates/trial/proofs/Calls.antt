@@ -21,7 +21,7 @@ use Rattle.rules.proofs.FourLooks.{four-looks, looksEach, looks-each}
 use Rattle.rules.proofs.TrialRuns as runs
 use Rattle.rules.proofs.TrialRuns.{Moved, calls-moved, gain-true}
 use Rattle.trial.specs.declared.Trial.{Trial}
-use Rattle.trial.specs.Record.{taken, turnedDown, none, shown, startOf, askedOf, nextOf, moveOf, gainOf}
+use Rattle.trial.specs.Record.{taken, turnedDown, none, shown, startOf, askedOf, moveOf, gainOf}
 use Rattle.trial.proofs.Movable.{no-state}
 use Rattle.trial.proofs.Fair.{asked-few}
 use Rattle.trial.proofs.Shown.{shownBy, Reached, by-start, by-move, reached-fair, move-shown, gain-shown}
@@ -31,9 +31,7 @@ use Rattle.trial.proofs.Shown.{shownBy, Reached, by-start, by-move, rea
 -- every move on the empty record is refused
 pub none-refuses : (s : StateNumber) → moveOf none s ≡ turnedDown none
 unfolding moveOf none
-none-refuses s =
-    ap (λ (c : Bool). cond c (taken (nextOf none (s .0))) (turnedDown none))
-    (sym (no-state 0 0 0 (s .0) (omega arith) (omega arith) (omega arith)))
+none-refuses s = rw (sym (no-state 0 0 0 (s .0) (omega arith) (omega arith) (omega arith)))
 
 -- ---- calls
 

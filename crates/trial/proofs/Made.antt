@@ -1,6 +1,6 @@
 -- The records that code makes step by step are those of the definitions.
 use mathlib.Core.Path.{_≡_, sym, ap, ap₂, _∙_}
-use mathlib.Core.Bool.{Bool, true, false, cond}
+use mathlib.Core.Bool.{Bool, true, false}
 use mathlib.Core.List.{List}
 use Prim.Native.Nat.{ℕ, _+_, _%_, _^_, _≤_, _<_}
 use native.Mathlib.Omega.{arith}
@@ -46,11 +46,11 @@ module _ (n b : ℕ) (fs gs : List ℕ) (said : Bool) (tested : said ≡ startab
 
   pub start-taken : (t : Trial) (r : Answer) → said ≡ true → t ≡ shown n b fs gs → r ≡ taken t → r ≡ startOf n b fs gs
   unfolding startOf
-  start-taken t r e p q = q ∙ ap taken p ∙ sym (ap (λ (c : Bool). cond c (taken (shown n b fs gs)) (turnedDown none)) (sym tested ∙ e))
+  start-taken t r e p q = let z : startable n b fs gs ≡ true = sym tested ∙ e in rw z (q ∙ ap taken p)
 
   pub start-refused : (t : Trial) (r : Answer) → said ≡ false → t ≡ none → r ≡ turnedDown t → r ≡ startOf n b fs gs
   unfolding startOf
-  start-refused t r e p q = q ∙ ap turnedDown p ∙ sym (ap (λ (c : Bool). cond c (taken (shown n b fs gs)) (turnedDown none)) (sym tested ∙ e))
+  start-refused t r e p q = let z : startable n b fs gs ≡ false = sym tested ∙ e in rw z (q ∙ ap turnedDown p)
 
 -- the record of a move
 module _ (t : Trial) (s : ℕ) where
@@ -80,19 +80,18 @@ module _ (t : Trial) (s : StateNumber) (said : Bool) (tested : said ≡ movable 
 
   pub move-taken : (u : Trial) (r : Answer) → said ≡ true → u ≡ nextOf t (s .0) → r ≡ taken u → r ≡ moveOf t s
   unfolding moveOf
-  move-taken u r e p q = q ∙ ap taken p ∙ sym (ap (λ (c : Bool). cond c (taken (nextOf t (s .0))) (turnedDown t)) (sym tested ∙ e))
+  move-taken u r e p q = let z : movable (t .states) (t .count) (t .moved) (s .0) ≡ true = sym tested ∙ e in rw z (q ∙ ap taken p)
 
   pub move-refused : (r : Answer) → said ≡ false → r ≡ turnedDown t → r ≡ moveOf t s
   unfolding moveOf
-  move-refused r e q = q ∙ sym (ap (λ (c : Bool). cond c (taken (nextOf t (s .0))) (turnedDown t)) (sym tested ∙ e))
+  move-refused r e q = let z : movable (t .states) (t .count) (t .moved) (s .0) ≡ false = sym tested ∙ e in rw z q
 
 -- the gain that a record shows
 module _ (t : Trial) (s : StateNumber) where
   pub gain-none : t .states ≤ s .0 → pos 0 ≡ gainOf t s
   unfolding gainOf
-  gain-none h = sym (ap (λ (c : Bool). cond c (subℕ (getD (t .table) (s .0) 0) level) (pos 0)) (le-ltb (s .0) (t .states) h))
+  gain-none h = rw (le-ltb (s .0) (t .states) h)
 
   pub gain-read : (v : ℕ) → s .0 < t .states → v ≡ getD (t .table) (s .0) 0 → subℕ v level ≡ gainOf t s
   unfolding gainOf
-  gain-read v h e =
-      ap (λ (w : ℕ). subℕ w level) e ∙ sym (ap (λ (c : Bool). cond c (subℕ (getD (t .table) (s .0) 0) level) (pos 0)) (lt-ltb (s .0) (t .states) h))
+  gain-read v h e = rw (lt-ltb (s .0) (t .states) h) (ap (λ (w : ℕ). subℕ w level) e)

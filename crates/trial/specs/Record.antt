@@ -8,7 +8,6 @@ use lib.Seq.{sets}
 use lib.IntN.{ℤ, pos, subℕ}
 use Rattle.sets.specs.Sets.{has, flip}
 use Rattle.rules.specs.Limits.{most-states, most-trial}
-use Rattle.rules.specs.Refusals.{number}
 use Rattle.rules.specs.Trial.{startable}
 use Rattle.rules.specs.declared.Requirement.{Requirement}
 use Rattle.rules.specs.declared.StateNumber.{StateNumber}
@@ -26,11 +25,6 @@ taken t = record { verdict = Verdict.Accepted; trial = t }
 
 abbrev pub turnedDown : Trial → Answer
 turnedDown t = record { verdict = Verdict.Refused BadCall 0; trial = t }
-
--- 0 for a call that is accepted, else the number of its refusal
-abbrev pub numberOf : Verdict → ℕ
-numberOf Verdict.Accepted = 0
-numberOf (Verdict.Refused r line) = number r
 
 -- ---- a start
 

@@ -6,10 +6,11 @@ ghost use lib.Bits.{bitAnd};
 ghost use lib.Dec.{eqb};
 ghost use lib.ListN.{replicate};
 ghost use lib.Seq.{sets};
+ghost use Rattle.rules.specs.Cases.{verdictNumbers};
 ghost use Rattle.rules.specs.Trial.{within, paired, allSound, startable};
 ghost use Rattle.passes.specs.Table.{level};
 ghost use Rattle.passes.specs.Moves.{drawn, filled};
-ghost use Rattle.trial.specs.Record.{cardOf, deck, blocksOf, taken, turnedDown, none, shown, startOf, movable, nextOf, moveOf, gainOf, numberOf};
+ghost use Rattle.trial.specs.Record.{cardOf, deck, blocksOf, taken, turnedDown, none, shown, startOf, movable, nextOf, moveOf, gainOf};
 
 // A trial record: n states, how many requirements it lists, the bit, the states that have moved, the looks so far. Of the blocks the first
 // 256 are first blocks and the others second ones; a card names two of them; the table has each state's level, as passes have it.
@@ -293,7 +294,7 @@ impl Trial {
 
 // 0 for a call that is accepted, else the number of its refusal.
 pub fn number_of(v: rules::Verdict) -> u32
-    ensures { λ r. ⌜ r ≡ numberOf v ⌝ }
+    ensures { λ r. ⌜ r ≡ verdictNumbers v .refusal ⌝ }
 {
     match v {
         rules::Verdict::Accepted => 0,
@@ -303,7 +304,7 @@ pub fn number_of(v: rules::Verdict) -> u32
 
 // The move of s on a record that the caller goes on holding: 0, or 11 where the move is refused, and the record then stays as it is.
 pub fn move_in_place(t: &mut Trial, s: rules::StateNumber) -> u32
-    ensures { λ r. ⌜ (now (t .exit) ≡ moveOf (now (t .entry)) s .trial) × (r ≡ numberOf (moveOf (now (t .entry)) s .verdict)) ⌝ }
+    ensures { λ r. ⌜ (now (t .exit) ≡ moveOf (now (t .entry)) s .trial) × (r ≡ verdictNumbers (moveOf (now (t .entry)) s .verdict) .refusal) ⌝ }
 {
     let a = (*t).make_move(s);
     *t = a.trial;

@@ -1,6 +1,7 @@
 -- `trial::can_start` meets its contract: the first case of refusal 11 decides, and after them the blocks.
 use Rattle.trial.proofs.Startable.{no-states, too-many-states, unlike-lengths, too-many, bit-too-high, blocks-decide}
 use mathlib.Core.Path.{sym, _∙_}
+use native.Mathlib.Omega.{arith}
 use borrow.Author.Needs.{needs}
 use borrow.Author.Tests.{not-true, not-false}
 use Rattle.trial.proofs.can_start.Statement.{statement}
@@ -10,13 +11,16 @@ returns : tie.Need-returns
 returns c = let a = c .before .before .before .args in no-states (a .n) (a .bit) (a .firsts .now) (a .seconds .now) (c .if1 .taken)
 
 returns-2 : tie.Need-returns-2
-returns-2 c = let a = c .before .before .before .before .args in too-many-states (a .n) (a .bit) (a .firsts .now) (a .seconds .now) (c .if2 .taken)
+returns-2 c = let a = c .before .before .before .before .args in
+    too-many-states (a .n) (a .bit) (a .firsts .now) (a .seconds .now) (omega (arith, c .if2 .taken))
 
 returns-3 : tie.Need-returns-3
-returns-3 c = let a = c .before .before .before .before .before .args in unlike-lengths (a .n) (a .bit) (a .firsts .now) (a .seconds .now) (c .if3 .taken)
+returns-3 c = let a = c .before .before .before .before .before .args in
+    unlike-lengths (a .n) (a .bit) (a .firsts .now) (a .seconds .now) (λ e. omega (arith, c .if3 .taken))
 
 returns-4 : tie.Need-returns-4
-returns-4 c = let a = c .before .before .before .before .before .before .args in too-many (a .n) (a .bit) (a .firsts .now) (a .seconds .now) (c .if4 .taken)
+returns-4 c = let a = c .before .before .before .before .before .before .args in
+    too-many (a .n) (a .bit) (a .firsts .now) (a .seconds .now) (omega (arith, c .if4 .taken))
 
 within-of-requires : tie.Need-within-of-requires
 within-of-requires c κs = search needs

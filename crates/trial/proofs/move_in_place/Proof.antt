@@ -41,13 +41,14 @@ use denote.Triple.Clauses.{ensured, lasts}
 use denote.Triple.Table.{entered, cited}
 use denote.Triple.Walked.{says, Stays, stay-ref, stay-none, walkOf, AllGo, goes-none, goes-ref, Walks, ends-at, walked, walk-meets}
 use denote.Exit.{yes}
+use Rattle.rules.specs.Cases.{verdictNumbers}
 use Rattle.rules.specs.declared.StateNumber.{StateNumber}
 use Rattle.rules.specs.declared.Verdict.{Verdict}
 use Rattle.rules.proofs.StateNumber as S
 use Rattle.rules.proofs.StateNumber.Laws as S′
 use Rattle.rules.proofs.Verdict as E
 use Rattle.rules.proofs.Verdict.Laws as E′
-use Rattle.trial.specs.Record.{moveOf, numberOf}
+use Rattle.trial.specs.Record.{moveOf}
 use Rattle.trial.specs.declared.Trial.{Trial}
 use Rattle.trial.specs.declared.Answer.{Answer}
 use Rattle.trial.proofs.Trial as T
@@ -72,6 +73,10 @@ Arg = RefT Trial × (StateNumber × Unit {0})
 
 abbrev stayed : Stays (move-in-place.ended .signature .params) (move-in-place.ended .kept)
 stayed = (stay-ref (0 ∷ []) tt (plain (λ _. T.the-row)), (stay-none (λ _. S.the-row) yes, tt))
+
+-- 0, or the number of the refusal
+abbrev numberOf : Verdict → ℕ
+numberOf v = verdictNumbers v .refusal
 
 -- the machine values of a record, of a state's number and of a verdict
 abbrev machT : Trial → Val
