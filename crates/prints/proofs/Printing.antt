@@ -1,0 +1,83 @@
+-- With room enough, what is printed of what was said is 01's reply, printed.
+use mathlib.Core.Path.{_≡_, refl, sym, ap, _∙_, subst}
+use mathlib.Core.Bool.{Bool, true, false, cond}
+use mathlib.Core.List.{List, [], _∷_, _++_}
+use Prim.Native.Nat.{ℕ, _+_, _^_, _≤_, _<_}
+use native.Mathlib.Omega.{arith}
+use borrow.Author.Tests.{le-leb}
+use lib.Dec.{leb}
+use lib.ListN.{length, take, drop, length-append}
+use lib.Seq.{take-append-seam}
+use Rattle.rules.specs.Text.{bytes, space, lf, decimal}
+use Rattle.rules.specs.Refusals.{number}
+use Rattle.rules.specs.Answers.{Reply, says, refuses, printed}
+use Rattle.rules.specs.declared.Refusal.{Refusal}
+use Rattle.rules.specs.declared.Refusal.the-variants.{BadLine, Limit, Place, EmptyGroup, NextState, Conflict, TooWide, Stalled, Unmet, NoRoom, BadCall}
+use Rattle.pen.specs.Pen.{Wrote}
+use Rattle.pen.proofs.Decimal.{decimal-length}
+use Rattle.pen.proofs.Laws.{wrote-length, wrote-part}
+use Rattle.replies.specs.declared.Said.{Said}
+use Rattle.replies.specs.Saying.{saying}
+use Rattle.replies.proofs.Small.{Small}
+use Rattle.prints.specs.Told.{told, Holding}
+
+-- what is said holds, and is told as the reply
+record Right (reply : Reply) (said : Said) (after : List ℕ) (room : ℕ) : Type 0 where
+  pub holding : Holding said room
+  pub telling : told said after ≡ printed reply
+
+right : (reply : Reply) (out : List ℕ) → Small reply → 100000 ≤ length out → Right reply (saying reply out .0) (saying reply out .1) (length out)
+unfolding saying told printed
+right (says text) out h room =
+    let l : length text ≤ length out = omega arith in
+    subst (λ (b : Bool). let c : Said × List ℕ = cond b (Said.Text (length text), text ++ drop (length text) out) (Said.Refused NoRoom 0, out) in Right (says text) (c .0) (c .1) (length out))
+    (sym (le-leb (length text) (length out) l))
+    (record { holding = l; telling = take-append-seam text (drop (length text) out) })
+right (refuses r line) out h room = record { holding = (h, room); telling = refl }
+
+module _ (reply : Reply) (out : List ℕ) (said : Said) (after : List ℕ) (e : _≡_ {A = Said × List ℕ} (said, after) (saying reply out)) (h : Small reply) (room : 100000 ≤ length out) where
+  here : Right reply said after (length out)
+  here = subst (λ (p : Said × List ℕ). Right reply (p .0) (p .1) (length out)) (sym e) (right reply out h room)
+
+  pub it-holds : Holding said (length out)
+  it-holds = here .holding
+
+  pub it-tells : told said after ≡ printed reply
+  it-tells = here .telling
+
+-- ---- a refusal is short
+
+number-few : (r : Refusal) → number r < 10 ^ 2
+number-few BadLine = omega arith
+number-few Limit = omega arith
+number-few Place = omega arith
+number-few EmptyGroup = omega arith
+number-few NextState = omega arith
+number-few Conflict = omega arith
+number-few TooWide = omega arith
+number-few Stalled = omega arith
+number-few Unmet = omega arith
+number-few NoRoom = omega arith
+number-few BadCall = omega arith
+
+refusal-length : (r : Refusal) (line : ℕ) → line < 100000 → length (printed (refuses r line)) ≤ 20
+unfolding printed
+refusal-length r line h =
+    let a : length (decimal (number r)) ≤ 2 = decimal-length 1 (number r) (number-few r) in
+    let b : length (decimal line) ≤ 5 = decimal-length 4 line (omega arith) in
+    simp length-append (omega arith)
+
+-- ---- the two ways to tell
+
+module _ (out : List ℕ) (said : Said) (h : Holding said (length out)) where
+  pub tell-text : (n : ℕ) → said ≡ Said.Text n → (n ≤ length out) × (take n out ≡ told said out)
+  unfolding told
+  tell-text n e = (subst (λ (x : Said). Holding x (length out)) e h, sym (ap (λ (x : Said). told x out) e))
+
+  pub tell-refusal : (r : Refusal) (line : ℕ) → said ≡ Said.Refused r line → (k : ℕ) (after : List ℕ) → Wrote out 0 (printed (refuses r line)) k after
+      → (k ≤ length out) × (take k after ≡ told said out)
+  unfolding told
+  tell-refusal r line e k after w =
+      let g : Holding (Said.Refused r line) (length out) = subst (λ (x : Said). Holding x (length out)) e h in
+      let few : length (printed (refuses r line)) ≤ 20 = refusal-length r line (g .0) in
+      (omega (arith, wrote-length w (omega arith), g .1), wrote-part w (omega (arith, g .1)) ∙ sym (ap (λ (x : Said). told x out) e))

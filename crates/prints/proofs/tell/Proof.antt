@@ -1,0 +1,41 @@
+-- `prints::tell` meets its contract.
+use Rattle.prints.proofs.Printing.{tell-text, tell-refusal}
+use Prim.Native.Nat.{ℕ, zero, suc, _≤_, _<_, _-_, _+_, _*_, _^_}
+use mathlib.Core.Path.{_≡_, refl, sym, ap, _∙_}
+use mathlib.Core.Logic.{⊎-elim}
+use mathlib.Core.List.{List, [], _∷_, _++_}
+use mathlib.Core.Bool.{Bool, true, false}
+use native.Mathlib.Omega.{arith}
+use native.Mathlib.Numerals.{add-one}
+use borrow.Author.Needs.{needs}
+use borrow.Author.Tests.{lt-ltb, le-ltb, le-leb, lt-leb, eq-eqb, ne-eqb, not-true, not-false}
+use lib.ListN.{length, take, drop, getD, set}
+use borrow.Author.Needs.{needs}
+use Rattle.prints.proofs.tell.Statement.{statement}
+use Rattle.prints.proofs.tell.Tie as tie
+use Rattle.prints.proofs.tell.Reads as reads
+use Rattle.prints.proofs.tell.Lts as lts
+use Rattle.answer.proofs.put_refusal.Reads as put-refusal-reads
+
+enum-known-said : tie.Need-enum-known-said
+enum-known-said c = search needs
+
+enum-known-said-2 : tie.Need-enum-known-said-2
+enum-known-said-2 c = search needs
+
+put-refusal-requires : tie.Need-put-refusal-requires
+put-refusal-requires c κs = search needs
+
+returns : tie.Need-returns
+returns c = tell-text _ _ (c .before .before .before .before .pre) _ (c .before .said .given .1)
+
+same-length : tie.Need-same-length
+same-length c = search needs
+
+returns-2 : tie.Need-returns-2
+returns-2 c = let w = c .before .before in let s = w .before .before .before in tell-refusal _ _ (s .before .before .before .pre) _ _ (s .said2 .given .1) _ _ (w .put-refusal .ensures)
+
+pub tell-spec : {M : Type 1} → statement M
+tell-spec =
+    tie.close
+    (tie.spec enum-known-said enum-known-said-2 put-refusal-requires returns same-length returns-2)
