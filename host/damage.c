@@ -1,0 +1,662 @@
+/* Damaged listings by chance: one function for each way in which a listing can be spoilt. */
+#include "generate.h"
+
+/* Where a line or a field stands in a listing; a line's LF is not counted in its length. */
+struct span {
+    size_t at;
+    size_t length;
+};
+
+/* Puts these bytes in the place of those of the span, if the listing can hold them. */
+static void replace(struct generated *listing, struct span span, const void *bytes, size_t length)
+{
+    size_t behind = listing->length - span.at - span.length;
+    if (span.at + length + behind > GENERATE_BYTES)
+        return;
+    memmove(listing->bytes + span.at + length, listing->bytes + span.at + span.length, behind);
+    memcpy(listing->bytes + span.at, bytes, length);
+    listing->length = span.at + length + behind;
+}
+
+static void replace_word(struct generated *listing, struct span span, const char *word)
+{
+    replace(listing, span, word, strlen(word));
+}
+
+static void insert(struct generated *listing, size_t at, const void *bytes, size_t length)
+{
+    struct span nothing = {at, 0};
+    replace(listing, nothing, bytes, length);
+}
+
+static void insert_word(struct generated *listing, size_t at, const char *word)
+{
+    insert(listing, at, word, strlen(word));
+}
+
+static unsigned line_number(const struct generated *listing)
+{
+    unsigned lines = 0;
+    for (size_t at = 0; at < listing->length; at++)
+        if (listing->bytes[at] == '\n')
+            lines++;
+    return lines;
+}
+
+/* The line of this number, from 0; behind the last one, an empty span at the end. */
+static struct span line_of(const struct generated *listing, unsigned number)
+{
+    struct span span = {0, 0};
+    while (span.at < listing->length && number > 0) {
+        if (listing->bytes[span.at] == '\n')
+            number--;
+        span.at++;
+    }
+    while (span.at + span.length < listing->length && listing->bytes[span.at + span.length] != '\n')
+        span.length++;
+    return span;
+}
+
+static struct span any_line(struct chance *chance, const struct generated *listing)
+{
+    return line_of(listing, chance_below(chance, line_number(listing) + 1));
+}
+
+static unsigned field_number(const struct generated *listing, struct span line)
+{
+    unsigned fields = 1;
+    for (size_t at = line.at; at < line.at + line.length; at++)
+        if (listing->bytes[at] == ' ')
+            fields++;
+    return fields;
+}
+
+/* The field of this number, from 0; it must be there. */
+static struct span field_of(const struct generated *listing, struct span line, unsigned number)
+{
+    struct span span = {line.at, 0};
+    size_t end = line.at + line.length;
+    while (number > 0) {
+        if (listing->bytes[span.at] == ' ')
+            number--;
+        span.at++;
+    }
+    while (span.at + span.length < end && listing->bytes[span.at + span.length] != ' ')
+        span.length++;
+    return span;
+}
+
+static struct span any_field(struct chance *chance, const struct generated *listing)
+{
+    struct span line = any_line(chance, listing);
+    unsigned fields = field_number(listing, line);
+    return field_of(listing, line, chance_below(chance, fields));
+}
+
+static bool has_mark(const struct generated *listing, struct span line, const char *mark)
+{
+    return line.length >= 3 && memcmp(listing->bytes + line.at, mark, 2) == 0 && listing->bytes[line.at + 2] == ' ';
+}
+
+/* The line behind this one. */
+static struct span line_after(const struct generated *listing, struct span line)
+{
+    struct span next = {line.at + line.length + 1, 0};
+    while (next.at + next.length < listing->length && listing->bytes[next.at + next.length] != '\n')
+        next.length++;
+    return next;
+}
+
+/* A line with this mark and so many fields, by chance; false if there is none. */
+static bool find_line(struct chance *chance, const struct generated *listing, const char *mark, unsigned fields,
+                      struct span *line)
+{
+    unsigned found = 0;
+    for (struct span at = line_of(listing, 0); at.at < listing->length; at = line_after(listing, at)) {
+        if (has_mark(listing, at, mark) && field_number(listing, at) == fields) {
+            found++;
+            if (chance_part(chance, 1, found)) /* each of those found so far is as likely */
+                *line = at;
+        }
+    }
+    return found > 0;
+}
+
+/* A row's line with all its five fields; one that fits the machine is put in before the last line if there is none. */
+static struct span a_row(struct chance *chance, struct generated *listing)
+{
+    struct span line;
+    if (find_line(chance, listing, "PT", 5, &line))
+        return line;
+    char row[256] = "PT ";
+    size_t length = 3;
+    unsigned fields[] = {listing->inputs, listing->states, listing->states, listing->outputs};
+    for (unsigned field = 0; field < LENGTH_OF(fields); field++) {
+        memset(row + length, '0', fields[field]);
+        length += fields[field];
+        row[length] = field + 1 < LENGTH_OF(fields) ? ' ' : '\n';
+        length++;
+    }
+    row[3 + listing->inputs + 1] = '1'; /* the group is state 0 */
+    unsigned lines = line_number(listing);
+    line.at = line_of(listing, lines == 0 ? 0 : lines - 1).at;
+    line.length = length - 1;
+    insert(listing, line.at, row, length);
+    return line;
+}
+
+static uint8_t any_byte(struct chance *chance)
+{
+    static const char likely[] = "01-+.01-+. \nMCPTDIEN2389";
+    if (chance_part(chance, 3, 4))
+        return (uint8_t)likely[chance_below(chance, sizeof likely - 1)];
+    return (uint8_t)chance_next(chance);
+}
+
+static size_t any_place(struct chance *chance, const struct generated *listing)
+{
+    return chance_below(chance, (unsigned)listing->length + 1);
+}
+
+static const char *any_word(struct chance *chance, const char *const *word, unsigned number)
+{
+    return word[chance_below(chance, number)];
+}
+
+/* A number as it may not stand, or may only in some places, or may. */
+static const char *any_number(struct chance *chance)
+{
+    static const char *const number[] = {
+        "0",  "1",   "2",    "16",   "17",    "32",    "33",         "31",    "64",   "65", "99",  "128", "129",
+        "00", "01",  "032",  "0001", "9999",  "10000", "00032",      "65536", "65537", "-1", "+1",  "1x",  "x",
+        "",   "3.0", "0x1f", "1\t",  "\r",    "256",   "4294967297", "1000",  "999",  "-",  "1e1", "000", "0000",
+    };
+    return any_word(chance, number, LENGTH_OF(number));
+}
+
+/* A number of 01's form that is out of some range. */
+static const char *far_number(struct chance *chance)
+{
+    static const char *const number[] = {"0", "17", "33", "34", "64", "65", "100", "999", "1000", "9999"};
+    return any_word(chance, number, LENGTH_OF(number));
+}
+
+static void fill_field(struct generated *listing, struct span field, char byte)
+{
+    memset(listing->bytes + field.at, byte, field.length);
+}
+
+/* ---- bytes ---- */
+
+static void change_byte(struct chance *chance, struct generated *listing)
+{
+    size_t at = any_place(chance, listing);
+    uint8_t byte = any_byte(chance);
+    if (at < listing->length)
+        listing->bytes[at] = byte;
+}
+
+static void insert_byte(struct chance *chance, struct generated *listing)
+{
+    size_t at = any_place(chance, listing);
+    uint8_t byte = any_byte(chance);
+    insert(listing, at, &byte, 1);
+}
+
+static void delete_byte(struct chance *chance, struct generated *listing)
+{
+    struct span span = {any_place(chance, listing), 1};
+    if (span.at < listing->length)
+        replace(listing, span, "", 0);
+}
+
+static void delete_run(struct chance *chance, struct generated *listing)
+{
+    struct span span = {any_place(chance, listing), 0};
+    unsigned left = (unsigned)(listing->length - span.at);
+    span.length = chance_below(chance, (left < 40 ? left : 40) + 1);
+    replace(listing, span, "", 0);
+}
+
+static void put_nul(struct chance *chance, struct generated *listing)
+{
+    size_t at = any_place(chance, listing);
+    insert(listing, at, "\0", 1);
+}
+
+static void put_cr(struct chance *chance, struct generated *listing)
+{
+    struct span line = any_line(chance, listing);
+    insert(listing, line.at + line.length, "\r", 1);
+}
+
+static void cut_off(struct chance *chance, struct generated *listing)
+{
+    listing->length = any_place(chance, listing);
+}
+
+static void rubbish(struct chance *chance, struct generated *listing)
+{
+    listing->length = chance_below(chance, 60);
+    for (size_t at = 0; at < listing->length; at++)
+        listing->bytes[at] = any_byte(chance);
+}
+
+static void nothing_at_all(struct chance *chance, struct generated *listing)
+{
+    (void)chance;
+    listing->length = 0;
+}
+
+/* ---- lines ---- */
+
+static void drop_line(struct chance *chance, struct generated *listing)
+{
+    struct span line = any_line(chance, listing);
+    if (line.at + line.length < listing->length)
+        line.length++;
+    replace(listing, line, "", 0);
+}
+
+static void double_line(struct chance *chance, struct generated *listing)
+{
+    struct span line = any_line(chance, listing);
+    uint8_t copy[4096];
+    if (line.at + line.length < listing->length)
+        line.length++;
+    if (line.length > sizeof copy)
+        return;
+    memcpy(copy, listing->bytes + line.at, line.length);
+    size_t at = line.at;
+    if (chance_part(chance, 1, 2))
+        at = any_line(chance, listing).at;
+    insert(listing, at, copy, line.length);
+}
+
+static void swap_lines(struct chance *chance, struct generated *listing)
+{
+    struct span line = any_line(chance, listing);
+    uint8_t copy[4096];
+    if (line.at + line.length < listing->length)
+        line.length++;
+    if (line.length > sizeof copy)
+        return;
+    memcpy(copy, listing->bytes + line.at, line.length);
+    replace(listing, line, "", 0);
+    insert(listing, any_line(chance, listing).at, copy, line.length);
+}
+
+static void no_last_lf(struct chance *chance, struct generated *listing)
+{
+    (void)chance;
+    if (listing->length > 0)
+        listing->length--;
+}
+
+static void empty_line(struct chance *chance, struct generated *listing)
+{
+    insert(listing, any_line(chance, listing).at, "\n", 1);
+}
+
+static void no_end(struct chance *chance, struct generated *listing)
+{
+    (void)chance;
+    unsigned lines = line_number(listing);
+    listing->length = line_of(listing, lines == 0 ? 0 : lines - 1).at;
+}
+
+static void after_end(struct chance *chance, struct generated *listing)
+{
+    static const char *const more[] = {
+        "\n", "\n\n", "E", "EN", "EN\n", "MC 1 1 1 0\n", "MC", "PT 0 1 0 1\n", " ", "\r", "x",
+    };
+    if (chance_part(chance, 1, 6))
+        insert(listing, listing->length, "\0", 1);
+    else
+        insert_word(listing, listing->length, any_word(chance, more, LENGTH_OF(more)));
+}
+
+static void second_head(struct chance *chance, struct generated *listing)
+{
+    static const char *const head[] = {
+        "MC 1 1 1 0\n", "MC 3 1 1 0\n", "MC\n", "MC \n", "MC 33 1 1 0\n", "MC 1 1\n", "MC x",
+    };
+    const char *word = any_word(chance, head, LENGTH_OF(head));
+    size_t at = any_line(chance, listing).at;
+    bool last = chance_part(chance, 1, 5);
+    insert_word(listing, at, word);
+    if (last) /* it is the last line, and has no LF */
+        listing->length = at + (word[strlen(word) - 1] == '\n' ? strlen(word) - 1 : strlen(word));
+}
+
+static void join_two(struct chance *chance, struct generated *listing)
+{
+    uint8_t copy[2048];
+    size_t length = listing->length < sizeof copy ? listing->length : sizeof copy;
+    memcpy(copy, listing->bytes, length);
+    size_t at = chance_below(chance, (unsigned)length + 1);
+    insert(listing, listing->length, copy + at, length - at);
+}
+
+/* ---- fields ---- */
+
+static void wrong_mark(struct chance *chance, struct generated *listing)
+{
+    static const char *const mark[] = {
+        "MCX", "Mc", "mc", "M", "MC\t", "PTX", "pt", "P",  "PT\r", "DIX", "di", "D", "DI+", "ENX", "en",  "E",
+        "EN1", "",   "SC", "UN", "CT",  ".i",  ".e", "FT", "MO",   "#",   "MC", "PT", "DI", "EN",  "\xC3\x84",
+    };
+    struct span line = any_line(chance, listing);
+    replace_word(listing, field_of(listing, line, 0), any_word(chance, mark, LENGTH_OF(mark)));
+}
+
+static void wrong_number(struct chance *chance, struct generated *listing)
+{
+    struct span line = line_of(listing, 0);
+    unsigned fields = field_number(listing, line);
+    unsigned field = fields < 2 ? 0 : chance_from(chance, 1, fields - 1);
+    replace_word(listing, field_of(listing, line, field), any_number(chance));
+}
+
+static void out_of_range(struct chance *chance, struct generated *listing)
+{
+    struct span line = line_of(listing, 0);
+    unsigned fields = field_number(listing, line);
+    unsigned field = fields < 2 ? 0 : chance_from(chance, 1, fields - 1);
+    replace_word(listing, field_of(listing, line, field), far_number(chance));
+}
+
+static void tab_for_space(struct chance *chance, struct generated *listing)
+{
+    size_t at = any_place(chance, listing);
+    for (size_t step = 0; step < listing->length; step++) {
+        size_t here = (at + step) % listing->length;
+        if (listing->bytes[here] == ' ') {
+            listing->bytes[here] = '\t';
+            return;
+        }
+    }
+}
+
+static void double_space(struct chance *chance, struct generated *listing)
+{
+    insert(listing, any_field(chance, listing).at, " ", 1);
+}
+
+static void leading_space(struct chance *chance, struct generated *listing)
+{
+    insert(listing, any_line(chance, listing).at, " ", 1);
+}
+
+static void trailing_space(struct chance *chance, struct generated *listing)
+{
+    struct span line = any_line(chance, listing);
+    insert(listing, line.at + line.length, " ", 1);
+}
+
+static void empty_field(struct chance *chance, struct generated *listing)
+{
+    replace(listing, any_field(chance, listing), "", 0);
+}
+
+static void longer_field(struct chance *chance, struct generated *listing)
+{
+    struct span field = any_field(chance, listing);
+    if (field.length == 0)
+        return;
+    uint8_t again = listing->bytes[field.at + field.length - 1];
+    insert(listing, field.at + field.length, &again, 1);
+}
+
+static void shorter_field(struct chance *chance, struct generated *listing)
+{
+    struct span field = any_field(chance, listing);
+    if (field.length == 0)
+        return;
+    field.length = 1;
+    replace(listing, field, "", 0);
+}
+
+/* A character that is right in another field, or in none. */
+static void wrong_character(struct chance *chance, struct generated *listing)
+{
+    static const char wrong[] = "-+.2x/,:*_OI\t\r\x01\x7F";
+    struct span field = any_field(chance, listing);
+    if (field.length == 0)
+        return;
+    size_t at = field.at + chance_below(chance, (unsigned)field.length);
+    listing->bytes[at] = (uint8_t)wrong[chance_below(chance, sizeof wrong - 1)];
+}
+
+static void more_fields(struct chance *chance, struct generated *listing)
+{
+    static const char *const more[] = {" 0", " 1", " 01", " 0 0 0 0 0 0", " -", " +", " x"};
+    struct span line = any_line(chance, listing);
+    insert_word(listing, line.at + line.length, any_word(chance, more, LENGTH_OF(more)));
+}
+
+static void fewer_fields(struct chance *chance, struct generated *listing)
+{
+    struct span line = any_line(chance, listing);
+    unsigned fields = field_number(listing, line);
+    if (fields < 2)
+        return;
+    struct span field = field_of(listing, line, chance_from(chance, 1, fields - 1));
+    field.at--;
+    field.length++;
+    replace(listing, field, "", 0);
+}
+
+static void swap_fields(struct chance *chance, struct generated *listing)
+{
+    struct span line = any_line(chance, listing);
+    unsigned fields = field_number(listing, line);
+    uint8_t copy[256];
+    if (fields < 3)
+        return;
+    struct span field = field_of(listing, line, chance_from(chance, 1, fields - 2));
+    if (field.length + 1 > sizeof copy)
+        return;
+    copy[0] = ' ';
+    memcpy(copy + 1, listing->bytes + field.at, field.length);
+    size_t length = field.length + 1;
+    field.at--;
+    field.length++;
+    replace(listing, field, "", 0);
+    line.length -= length;
+    insert(listing, line.at + line.length, copy, length);
+}
+
+/* ---- rows ---- */
+
+static void no_group(struct chance *chance, struct generated *listing)
+{
+    struct span line = a_row(chance, listing);
+    fill_field(listing, field_of(listing, line, 2), '0');
+}
+
+/* Two or more `1` in next. */
+static void two_nexts(struct chance *chance, struct generated *listing)
+{
+    struct span line = a_row(chance, listing);
+    struct span field = field_of(listing, line, 3);
+    for (unsigned more = chance_from(chance, 2, 4); more > 0 && field.length > 0; more--)
+        listing->bytes[field.at + chance_below(chance, (unsigned)field.length)] = '1';
+}
+
+/* ---- several faults on one line: the order 3, 1, 2, 4, 5 ---- */
+
+static void spoil_row(struct chance *chance, struct generated *listing, struct span line)
+{
+    bool empty = chance_part(chance, 1, 2);
+    bool two = chance_part(chance, 1, 2);
+    bool character = chance_part(chance, 1, 5);
+    bool field_more = chance_part(chance, 1, 8);
+    bool head = chance_part(chance, 1, 12);
+    bool last = chance_part(chance, 1, 6);
+    size_t before = listing->length;
+    if (empty)
+        fill_field(listing, field_of(listing, line, 2), '0');
+    if (two)
+        fill_field(listing, field_of(listing, line, 3), '1');
+    if (character) {
+        struct span field = field_of(listing, line, chance_from(chance, 1, 4));
+        if (field.length > 0)
+            listing->bytes[field.at] = 'x';
+    }
+    if (head)
+        replace_word(listing, field_of(listing, line, 0), "MC");
+    if (field_more)
+        insert(listing, line.at + line.length, " 1", 2);
+    line.length += listing->length - before;
+    if (last) /* no LF, and nothing behind it */
+        listing->length = line.at + line.length;
+}
+
+static void spoilt_row(struct chance *chance, struct generated *listing)
+{
+    struct span line = a_row(chance, listing);
+    spoil_row(chance, listing, line);
+}
+
+static void spoilt_head(struct chance *chance, struct generated *listing)
+{
+    for (unsigned more = chance_from(chance, 2, 4); more > 0; more--) {
+        if (chance_part(chance, 2, 3))
+            out_of_range(chance, listing);
+        else
+            wrong_number(chance, listing);
+    }
+    if (chance_part(chance, 1, 8))
+        insert_word(listing, line_of(listing, 0).length, chance_part(chance, 1, 2) ? " " : " 1");
+    if (chance_part(chance, 1, 8))
+        listing->length = line_of(listing, 0).length;
+}
+
+/* One row more in a listing of 126 to 129, spoilt or not, somewhere near the end. */
+static void spoilt_129th(struct chance *chance, struct generated *listing)
+{
+    uint8_t copy[256];
+    generate_good(chance, GENERATE_MANY_ROWS, listing);
+    struct span line = a_row(chance, listing);
+    size_t length = line.length + 1;
+    memcpy(copy, listing->bytes + line.at, length);
+    unsigned lines = line_number(listing);
+    line.at = line_of(listing, lines - 1 - chance_below(chance, 3)).at;
+    insert(listing, line.at, copy, length);
+    if (chance_part(chance, 2, 3))
+        spoil_row(chance, listing, line);
+}
+
+/* One dichotomy more in a listing of 62 to 65, spoilt or not, somewhere near the end. */
+static void spoilt_65th(struct chance *chance, struct generated *listing)
+{
+    uint8_t copy[256];
+    struct span line = {0, 0};
+    generate_good(chance, GENERATE_MANY_DICHOTOMIES, listing);
+    if (!find_line(chance, listing, "DI", 2, &line))
+        return;
+    size_t length = line.length + 1;
+    memcpy(copy, listing->bytes + line.at, length);
+    unsigned lines = line_number(listing);
+    line.at = line_of(listing, lines - 1 - chance_below(chance, 3)).at;
+    insert(listing, line.at, copy, length);
+    if (chance_part(chance, 1, 4))
+        listing->bytes[line.at + 3] = 'x';
+    if (chance_part(chance, 1, 8))
+        insert(listing, line.at + line.length, " +", 2);
+    if (chance_part(chance, 1, 8))
+        listing->length = line.at + line.length;
+}
+
+/* ---- the longest listings ---- */
+
+/* 65,536 bytes or a few more or fewer: filled up behind the end, within a line, or with many lines. */
+static void very_long(struct chance *chance, struct generated *listing)
+{
+    static const unsigned length[] = {65535, 65536, 65536, 65537, 65537, 65538, 69999};
+    static const char fill[] = "0 \nx1";
+    size_t wanted = length[chance_below(chance, LENGTH_OF(length))];
+    if (listing->length > wanted)
+        return;
+    size_t more = wanted - listing->length;
+    size_t at = listing->length;
+    if (chance_part(chance, 1, 2)) {
+        struct span line = any_line(chance, listing);
+        at = line.at + line.length;
+    }
+    memmove(listing->bytes + at + more, listing->bytes + at, listing->length - at);
+    memset(listing->bytes + at, fill[chance_below(chance, sizeof fill - 1)], more);
+    listing->length = wanted;
+}
+
+/* Every kind of damage, and how often it is drawn: the weight is its share in the sum of all weights. */
+static const struct {
+    const char *name;
+    unsigned weight;
+    void (*spoil)(struct chance *chance, struct generated *listing);
+} damages[GENERATE_DAMAGES] = {
+    {"change a byte", 12, change_byte},
+    {"insert a byte", 6, insert_byte},
+    {"delete a byte", 6, delete_byte},
+    {"delete a run", 3, delete_run},
+    {"a NUL", 2, put_nul},
+    {"a CR", 2, put_cr},
+    {"cut off", 4, cut_off},
+    {"rubbish", 2, rubbish},
+    {"nothing at all", 1, nothing_at_all},
+    {"drop a line", 4, drop_line},
+    {"double a line", 4, double_line},
+    {"swap lines", 4, swap_lines},
+    {"no last LF", 3, no_last_lf},
+    {"an empty line", 2, empty_line},
+    {"no EN", 3, no_end},
+    {"bytes after EN", 4, after_end},
+    {"a second MC", 4, second_head},
+    {"two listings", 2, join_two},
+    {"wrong mark", 5, wrong_mark},
+    {"wrong number", 6, wrong_number},
+    {"out of range", 6, out_of_range},
+    {"a tab", 2, tab_for_space},
+    {"a double space", 2, double_space},
+    {"a leading space", 2, leading_space},
+    {"a trailing space", 2, trailing_space},
+    {"an empty field", 3, empty_field},
+    {"a longer field", 4, longer_field},
+    {"a shorter field", 4, shorter_field},
+    {"wrong character", 6, wrong_character},
+    {"more fields", 3, more_fields},
+    {"fewer fields", 3, fewer_fields},
+    {"swap fields", 3, swap_fields},
+    {"an empty group", 5, no_group},
+    {"two nexts", 5, two_nexts},
+    {"a spoilt row", 8, spoilt_row},
+    {"a spoilt head", 4, spoilt_head},
+    {"a spoilt 129th row", 3, spoilt_129th},
+    {"a spoilt 65th DI", 3, spoilt_65th},
+    {"very long", 1, very_long},
+};
+
+const char *generate_damage_name(unsigned damage)
+{
+    return damages[damage].name;
+}
+
+unsigned generate_draw_damage(struct chance *chance)
+{
+    unsigned sum = 0;
+    for (unsigned damage = 0; damage < GENERATE_DAMAGES; damage++)
+        sum += damages[damage].weight;
+    unsigned at = chance_below(chance, sum);
+    unsigned damage = 0;
+    while (at >= damages[damage].weight) {
+        at -= damages[damage].weight;
+        damage++;
+    }
+    return damage;
+}
+
+void generate_damage(struct chance *chance, unsigned damage, struct generated *listing)
+{
+    damages[damage].spoil(chance, listing);
+}

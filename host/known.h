@@ -1,0 +1,12 @@
+/* The known answers of 01 that are whole listings, run through any pair of report and cover entries. */
+#ifndef KNOWN_H
+#define KNOWN_H
+
+#include "base.h"
+
+typedef int64_t entry(const uint8_t *listing, size_t listing_length, uint8_t *out, size_t out_length);
+
+/* Prints what fails, with this name before it, and answers how much failed; adds what was checked to *checks. */
+unsigned known_run(const char *name, entry *report, entry *cover, unsigned *checks);
+
+#endif

@@ -1,0 +1,182 @@
+/* The second encoder's two entries: the report and the cover of a listing, as bytes or as the number of a refusal. */
+#include "second.h"
+
+/* A text being written. */
+struct text {
+    size_t length;
+    uint8_t bytes[SECOND_TEXT];
+};
+
+static void put_byte(struct text *text, char byte)
+{
+    text->bytes[text->length] = (uint8_t)byte;
+    text->length++;
+}
+
+static void put_word(struct text *text, const char *word)
+{
+    for (; *word != 0; word++)
+        put_byte(text, *word);
+}
+
+static void put_number(struct text *text, uint64_t number)
+{
+    if (number >= 10)
+        put_number(text, number / 10);
+    put_byte(text, (char)('0' + number % 10));
+}
+
+static void put_word_number(struct text *text, const char *word, uint64_t number)
+{
+    put_word(text, word);
+    put_byte(text, ' ');
+    put_number(text, number);
+}
+
+/* "Bits are in the order built, first bit leftmost." */
+static void put_code(struct text *text, const struct second_code *code, unsigned state)
+{
+    for (unsigned place = 0; place < code->bits; place++)
+        put_byte(text, code->bit[place] >> state & 1 ? '1' : '0');
+}
+
+/* "minus (number * 100,000 + line)" */
+static int64_t refused(struct second_refusal refusal)
+{
+    return -((int64_t)refusal.number * 100000 + (int64_t)refusal.line);
+}
+
+/* "no room: the lent output is shorter than the answer"; "A refusal writes no byte of the output; an answer leaves the
+   bytes behind its own length as they came." */
+static int64_t hand_over(const struct text *text, uint8_t *out, size_t out_length)
+{
+    struct second_refusal no_room = {SECOND_NO_ROOM, 0};
+    if (out_length < text->length)
+        return refused(no_room);
+    memcpy(out, text->bytes, text->length);
+    return (int64_t)text->length;
+}
+
+/* "too long; then lines from the top ...; then 6; 7 or 8" */
+static struct second_refusal encode(const uint8_t *listing, size_t length, struct second_machine *machine,
+                                    struct second_requirements *requirements, struct second_code *code)
+{
+    struct second_refusal refusal = second_read_lines(listing, length, machine);
+    if (refusal.number != SECOND_FINE)
+        return refusal;
+    refusal = second_find_conflict(machine);
+    if (refusal.number != SECOND_FINE)
+        return refusal;
+    second_draw_up(machine, requirements);
+    return second_build_code(requirements, machine->states, machine->width, code);
+}
+
+/* "`CT bits asked unmet passes looks` ...; `SC state code` for each state; `UN number` for each unmet requirement,
+   ascending; `EN`. A code of no bits prints as one dash." */
+static void write_report(const struct second_machine *machine, const struct second_requirements *requirements,
+                         const struct second_code *code, struct text *text)
+{
+    unsigned unmet = 0;
+    for (unsigned r = 0; r < requirements->number; r++)
+        if (!second_code_meets(requirements->list[r], code))
+            unmet++;
+    put_word_number(text, "CT", code->bits);
+    put_word_number(text, "", requirements->number);
+    put_word_number(text, "", unmet);
+    put_word_number(text, "", code->passes);
+    put_word_number(text, "", code->looks);
+    put_byte(text, '\n');
+    for (unsigned state = 0; state < machine->states; state++) {
+        put_word_number(text, "SC", state);
+        put_byte(text, ' ');
+        if (code->bits == 0)
+            put_byte(text, '-');
+        put_code(text, code, state);
+        put_byte(text, '\n');
+    }
+    for (unsigned r = 0; r < requirements->number; r++) {
+        if (!second_code_meets(requirements->list[r], code)) {
+            put_word_number(text, "UN", r);
+            put_byte(text, '\n');
+        }
+    }
+    put_word(text, "EN\n");
+}
+
+/* "A face has `0` or `1` where all the group's codes agree, `-` elsewhere." */
+char second_face_place(uint64_t group, uint64_t bit)
+{
+    if ((group & bit) == 0)
+        return '0';
+    if ((group & ~bit) == 0)
+        return '1';
+    return '-';
+}
+
+/* "A line is the input, the face, a space, the code of the next state (zeros if none), the outputs"; an output dash "is
+   written as `0` in the cover". */
+static void write_cover_row(const struct second_machine *machine, const struct second_row *row,
+                            const struct second_code *code, struct text *text)
+{
+    for (unsigned place = 0; place < machine->inputs; place++)
+        put_byte(text, (char)row->input[place]);
+    for (unsigned place = 0; place < code->bits; place++)
+        put_byte(text, second_face_place(row->group, code->bit[place]));
+    put_byte(text, ' ');
+    if (row->next == SECOND_NO_STATE) {
+        for (unsigned place = 0; place < code->bits; place++)
+            put_byte(text, '0');
+    } else {
+        put_code(text, code, (unsigned)row->next);
+    }
+    for (unsigned place = 0; place < machine->outputs; place++)
+        put_byte(text, row->outputs[place] == '1' ? '1' : '0');
+    put_byte(text, '\n');
+}
+
+/* "Cover: `.i` (i + bits), `.o` (bits + o), `.p` (rows), a line per `PT` in order, `.e`." */
+static void write_cover(const struct second_machine *machine, const struct second_code *code, struct text *text)
+{
+    put_word_number(text, ".i", machine->inputs + code->bits);
+    put_byte(text, '\n');
+    put_word_number(text, ".o", code->bits + machine->outputs);
+    put_byte(text, '\n');
+    put_word_number(text, ".p", machine->rows);
+    put_byte(text, '\n');
+    for (unsigned row = 0; row < machine->rows; row++)
+        write_cover_row(machine, &machine->row[row], code, text);
+    put_word(text, ".e\n");
+}
+
+int64_t second_report(const uint8_t *listing, size_t listing_length, uint8_t *out, size_t out_length)
+{
+    static struct second_machine machine;
+    static struct second_requirements requirements;
+    static struct text text;
+    struct second_code code;
+    struct second_refusal refusal = encode(listing, listing_length, &machine, &requirements, &code);
+    if (refusal.number != SECOND_FINE)
+        return refused(refusal);
+    text.length = 0;
+    write_report(&machine, &requirements, &code, &text);
+    return hand_over(&text, out, out_length);
+}
+
+/* 9 is "cover asked for, and a pair or group requirement is unmet": a dichotomy may stay unmet. */
+int64_t second_cover(const uint8_t *listing, size_t listing_length, uint8_t *out, size_t out_length)
+{
+    static struct second_machine machine;
+    static struct second_requirements requirements;
+    static struct text text;
+    struct second_refusal unmet = {SECOND_UNMET, 0};
+    struct second_code code;
+    struct second_refusal refusal = encode(listing, listing_length, &machine, &requirements, &code);
+    if (refusal.number != SECOND_FINE)
+        return refused(refusal);
+    for (unsigned r = 0; r < requirements.pairs_groups; r++)
+        if (!second_code_meets(requirements.list[r], &code))
+            return refused(unmet);
+    text.length = 0;
+    write_cover(&machine, &code, &text);
+    return hand_over(&text, out, out_length);
+}

@@ -1,0 +1,136 @@
+/* The second encoder: written from 01 and the readings alone, the plain way, to check the proved one against. */
+#ifndef SECOND_H
+#define SECOND_H
+
+#include "base.h"
+
+/* The limits of 01, "The listing". Req 09 makes the first one 64; everything else follows. */
+#ifndef SECOND_STATES
+#define SECOND_STATES 32
+#endif
+#define SECOND_WIDTH SECOND_STATES
+#define SECOND_INPUTS 16
+#define SECOND_OUTPUTS 32
+#define SECOND_ROWS 128
+#define SECOND_DICHOTOMIES 64
+#define SECOND_BYTES 65536
+
+/* 01, "Requirements": at most 496 + 3,840 + 64 = 4,400. */
+#define SECOND_REQUIREMENTS \
+    (SECOND_STATES * (SECOND_STATES - 1) / 2 + SECOND_ROWS * (SECOND_STATES - 2) + SECOND_DICHOTOMIES)
+
+/* 01, "Looks": the trial record takes a list of at most 256. */
+#define SECOND_TRIAL_REQUIREMENTS 256
+
+/* No text that the encoder prints is longer: an UN line has at most 9 bytes, an SC line at most 72, a cover row at most
+   192. */
+#define SECOND_TEXT (SECOND_REQUIREMENTS * 9 + SECOND_STATES * 72 + SECOND_ROWS * 192 + 256)
+
+/* 01, "Refusal numbers". SECOND_FINE stands for no refusal. */
+enum {
+    SECOND_FINE = 0,
+    SECOND_BAD_LINE = 1,
+    SECOND_LIMIT = 2,
+    SECOND_PLACE = 3,
+    SECOND_EMPTY_GROUP = 4,
+    SECOND_NEXT = 5,
+    SECOND_CONFLICT = 6,
+    SECOND_TOO_WIDE = 7,
+    SECOND_STALLED = 8,
+    SECOND_UNMET = 9,
+    SECOND_NO_ROOM = 10,
+    SECOND_BAD_CALL = 11
+};
+
+struct second_refusal {
+    unsigned number;
+    unsigned line;
+};
+
+/* A set of states is a mask: state j is the bit 2^j (reading 17). */
+struct second_requirement {
+    uint64_t first;
+    uint64_t second;
+};
+
+#define SECOND_NO_STATE (-1)
+
+struct second_row {
+    unsigned line;
+    uint8_t input[SECOND_INPUTS];
+    uint64_t group;
+    int next; /* a state, or SECOND_NO_STATE */
+    uint8_t outputs[SECOND_OUTPUTS];
+};
+
+struct second_machine {
+    unsigned states;
+    unsigned inputs;
+    unsigned outputs;
+    unsigned width;
+    unsigned rows;
+    struct second_row row[SECOND_ROWS];
+    unsigned dichotomies;
+    struct second_requirement dichotomy[SECOND_DICHOTOMIES];
+};
+
+struct second_requirements {
+    unsigned number;       /* all of them */
+    unsigned pairs_groups; /* those before the first DI */
+    struct second_requirement list[SECOND_REQUIREMENTS];
+};
+
+/* bit[0] is the bit built first, printed leftmost; in it, the mask's bit j is the value of state j. */
+struct second_code {
+    unsigned bits;
+    uint64_t bit[SECOND_WIDTH];
+    uint64_t passes;
+    uint64_t looks;
+};
+
+/* The two entries, with the answers of 01's C host: the length written, or minus (number * 100000 + line). */
+int64_t second_report(const uint8_t *listing, size_t listing_length, uint8_t *out, size_t out_length);
+int64_t second_cover(const uint8_t *listing, size_t listing_length, uint8_t *out, size_t out_length);
+
+/* The steps, for the tests. */
+
+/* second_read.c */
+struct second_refusal second_read_head(const uint8_t *listing, size_t length, struct second_machine *machine);
+struct second_refusal second_read_lines(const uint8_t *listing, size_t length, struct second_machine *machine);
+struct second_refusal second_find_conflict(const struct second_machine *machine);
+
+/* second_code.c */
+uint64_t second_all_states(unsigned states);
+unsigned second_size(uint64_t set);
+void second_draw_up(const struct second_machine *machine, struct second_requirements *requirements);
+bool second_bit_meets(struct second_requirement requirement, uint64_t bit);
+bool second_code_meets(struct second_requirement requirement, const struct second_code *code);
+bool second_near(struct second_requirement requirement, uint64_t bit);
+bool second_looks_at(struct second_requirement requirement, uint64_t bit, unsigned state);
+int64_t second_met_number(const struct second_requirement *live, unsigned number, uint64_t bit);
+int64_t second_gain(const struct second_requirement *live, unsigned number, uint64_t bit, unsigned state);
+uint64_t second_build_bit(const struct second_requirement *live, unsigned number, unsigned states,
+                          uint64_t *passes, uint64_t *looks);
+struct second_refusal second_build_code(const struct second_requirements *requirements, unsigned states,
+                                        unsigned width, struct second_code *code);
+
+/* second.c */
+char second_face_place(uint64_t group, uint64_t bit);
+
+/* second_trial.c: the trial record (01, "Looks"). Each of these answers SECOND_FINE or SECOND_BAD_CALL. */
+struct second_trial {
+    unsigned states; /* 0 in the empty record */
+    uint64_t bit;
+    uint64_t moved;
+    uint64_t looks;
+    unsigned number;
+    struct second_requirement list[SECOND_TRIAL_REQUIREMENTS];
+};
+
+unsigned second_trial_start(uint64_t states, uint64_t bit, const uint64_t *firsts, size_t first_number,
+                            const uint64_t *seconds, size_t second_number, struct second_trial *trial);
+unsigned second_trial_move(struct second_trial *trial, uint64_t state);
+unsigned second_trial_gain(const struct second_trial *trial, uint64_t state, int64_t *gain);
+uint64_t second_trial_looks(const struct second_trial *trial);
+
+#endif

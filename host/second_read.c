@@ -1,0 +1,278 @@
+/* The second encoder's reader: from a listing's bytes to a machine, or to the refusal (1 to 6) that 01 names. */
+#include "second.h"
+
+struct field {
+    const uint8_t *at;
+    size_t length;
+};
+
+/* A line without its LF, and whether it had one. */
+struct line {
+    const uint8_t *at;
+    size_t length;
+    bool ended;
+};
+
+/* The most fields that a line of any mark has: PT and MC have five. */
+#define FIELDS 5
+
+static struct second_refusal refuse(unsigned number, unsigned line)
+{
+    struct second_refusal refusal = {number, line};
+    return refusal;
+}
+
+/* "Text lines, each ended by LF": the line at *at; *at then stands behind it. Bytes behind the last LF are a line too
+   (reading 1). */
+static struct line take_line(const uint8_t *listing, size_t length, size_t *at)
+{
+    struct line line = {listing + *at, 0, false};
+    while (*at < length) {
+        uint8_t byte = listing[*at];
+        (*at)++;
+        if (byte == '\n') {
+            line.ended = true;
+            return line;
+        }
+        line.length++;
+    }
+    return line;
+}
+
+/* "fields parted by one space": every space parts two fields (reading 3). Answers how many fields the line has, and
+   gives the first FIELDS of them. */
+static size_t split(struct line line, struct field *field)
+{
+    size_t number = 1;
+    field[0].at = line.at;
+    field[0].length = 0;
+    for (size_t at = 0; at < line.length; at++) {
+        if (line.at[at] == ' ') {
+            number++;
+            if (number <= FIELDS) {
+                field[number - 1].at = line.at + at + 1;
+                field[number - 1].length = 0;
+            }
+        } else if (number <= FIELDS) {
+            field[number - 1].length++;
+        }
+    }
+    return number;
+}
+
+/* "The mark is a line's whole first field, so `MCX` is an unknown one." */
+static bool is_mark(struct field field, const char *mark)
+{
+    return field.length == 2 && field.at[0] == (uint8_t)mark[0] && field.at[1] == (uint8_t)mark[1];
+}
+
+/* "Each number is one to four digits, no leading zero except `0` itself." */
+static bool read_number(struct field field, unsigned *number)
+{
+    if (field.length < 1 || field.length > 4)
+        return false;
+    if (field.length > 1 && field.at[0] == '0')
+        return false;
+    *number = 0;
+    for (size_t at = 0; at < field.length; at++) {
+        if (field.at[at] < '0' || field.at[at] > '9')
+            return false;
+        *number = *number * 10 + (field.at[at] - '0');
+    }
+    return true;
+}
+
+/* A field of so many characters, each out of the ones allowed. */
+static bool has_form(struct field field, size_t length, const char *allowed)
+{
+    if (field.length != length)
+        return false;
+    for (size_t at = 0; at < length; at++) {
+        bool known = false;
+        for (const char *one = allowed; *one != 0; one++)
+            if (field.at[at] == (uint8_t)*one)
+                known = true;
+        if (!known)
+            return false;
+    }
+    return true;
+}
+
+/* "Character j of a group, next or dichotomy is state j, from 0": the states that have this character. */
+static uint64_t states_with(struct field field, char character)
+{
+    uint64_t set = 0;
+    for (size_t state = 0; state < field.length; state++)
+        if (field.at[state] == (uint8_t)character)
+            set |= (uint64_t)1 << state;
+    return set;
+}
+
+/* "`MC n i o w`: states 1..32, inputs 1..16, outputs 1..32, width 0..32." */
+static unsigned read_mc(const struct field *field, size_t fields, struct second_machine *machine)
+{
+    if (fields != 5)
+        return SECOND_BAD_LINE;
+    if (!read_number(field[1], &machine->states) || !read_number(field[2], &machine->inputs) ||
+        !read_number(field[3], &machine->outputs) || !read_number(field[4], &machine->width))
+        return SECOND_BAD_LINE;
+    if (machine->states < 1 || machine->states > SECOND_STATES)
+        return SECOND_LIMIT;
+    if (machine->inputs < 1 || machine->inputs > SECOND_INPUTS)
+        return SECOND_LIMIT;
+    if (machine->outputs < 1 || machine->outputs > SECOND_OUTPUTS)
+        return SECOND_LIMIT;
+    if (machine->width > SECOND_WIDTH)
+        return SECOND_LIMIT;
+    return SECOND_FINE;
+}
+
+/* "`PT input group next outputs`: a row." Within the line 1, then 2 for the 129th, then 4, then 5 (reading 7). */
+static unsigned read_pt(const struct field *field, size_t fields, unsigned line, struct second_machine *machine)
+{
+    if (fields != 5)
+        return SECOND_BAD_LINE;
+    if (!has_form(field[1], machine->inputs, "01-") || !has_form(field[2], machine->states, "01") ||
+        !has_form(field[3], machine->states, "01") || !has_form(field[4], machine->outputs, "01-"))
+        return SECOND_BAD_LINE;
+    if (machine->rows == SECOND_ROWS)
+        return SECOND_LIMIT;
+    uint64_t group = states_with(field[2], '1');
+    uint64_t next = states_with(field[3], '1');
+    if (group == 0)
+        return SECOND_EMPTY_GROUP;
+    if (second_size(next) >= 2)
+        return SECOND_NEXT;
+    struct second_row *row = &machine->row[machine->rows];
+    row->line = line;
+    row->group = group;
+    row->next = SECOND_NO_STATE;
+    for (unsigned state = 0; state < machine->states; state++)
+        if (next >> state & 1)
+            row->next = (int)state;
+    memcpy(row->input, field[1].at, machine->inputs);
+    memcpy(row->outputs, field[4].at, machine->outputs);
+    machine->rows++;
+    return SECOND_FINE;
+}
+
+/* "`DI` and n of `+ - .`: a dichotomy. `+` is the first block, `-` the second, `.` neither." */
+static unsigned read_di(const struct field *field, size_t fields, struct second_machine *machine)
+{
+    if (fields != 2)
+        return SECOND_BAD_LINE;
+    if (!has_form(field[1], machine->states, "+-."))
+        return SECOND_BAD_LINE;
+    if (machine->dichotomies == SECOND_DICHOTOMIES)
+        return SECOND_LIMIT;
+    struct second_requirement *dichotomy = &machine->dichotomy[machine->dichotomies];
+    dichotomy->first = states_with(field[1], '+');
+    dichotomy->second = states_with(field[1], '-');
+    machine->dichotomies++;
+    return SECOND_FINE;
+}
+
+/* One line before the end, numbered from 1: "within it 3, 1, 2, 4, 5". *at_end tells that it was a good `EN`. */
+static unsigned read_line(struct line line, unsigned number, struct second_machine *machine, bool *at_end)
+{
+    struct field field[FIELDS];
+    size_t fields = split(line, field);
+    bool is_head = is_mark(field[0], "MC");
+
+    /* "On line 1 a mark other than `MC`, known or not, is 3"; "a second `MC`" is 3. */
+    if (number == 1 && !is_head)
+        return SECOND_PLACE;
+    if (number != 1 && is_head)
+        return SECOND_PLACE;
+
+    /* "LF missing" is 1, before anything about the fields (reading 1). */
+    if (!line.ended)
+        return SECOND_BAD_LINE;
+
+    if (is_head)
+        return read_mc(field, fields, machine);
+    if (is_mark(field[0], "PT"))
+        return read_pt(field, fields, number, machine);
+    if (is_mark(field[0], "DI"))
+        return read_di(field, fields, machine);
+    if (is_mark(field[0], "EN")) {
+        if (fields != 1)
+            return SECOND_BAD_LINE;
+        *at_end = true;
+        return SECOND_FINE;
+    }
+
+    /* "later an unknown mark is 1." */
+    return SECOND_BAD_LINE;
+}
+
+/* P10's "first lines alone": the head line with its LF (reading 10). */
+struct second_refusal second_read_head(const uint8_t *listing, size_t length, struct second_machine *machine)
+{
+    size_t at = 0;
+    bool at_end = false;
+    machine->rows = 0;
+    machine->dichotomies = 0;
+    unsigned fault = read_line(take_line(listing, length, &at), 1, machine, &at_end);
+    return refuse(fault, fault == SECOND_FINE ? 0 : 1);
+}
+
+/* "Order: too long; then lines from the top, the first faulty line decides". "bytes after `EN`" are 3 at the line they
+   begin (reading 4); without `EN` it is 3 at "one past the last" (reading 5), so an empty listing is 3 at line 1. */
+struct second_refusal second_read_lines(const uint8_t *listing, size_t length, struct second_machine *machine)
+{
+    machine->rows = 0;
+    machine->dichotomies = 0;
+    if (length > SECOND_BYTES)
+        return refuse(SECOND_LIMIT, 0);
+    size_t at = 0;
+    unsigned number = 1;
+    bool at_end = false;
+    while (at < length) {
+        if (at_end)
+            return refuse(SECOND_PLACE, number);
+        unsigned fault = read_line(take_line(listing, length, &at), number, machine, &at_end);
+        if (fault != SECOND_FINE)
+            return refuse(fault, number);
+        number++;
+    }
+    if (!at_end)
+        return refuse(SECOND_PLACE, number);
+    return refuse(SECOND_FINE, 0);
+}
+
+/* Some input vector agrees with both rows' inputs: no place asks 0 in one and 1 in the other. */
+static bool inputs_share(const struct second_row *one, const struct second_row *other, unsigned inputs)
+{
+    for (unsigned place = 0; place < inputs; place++) {
+        if (one->input[place] == '0' && other->input[place] == '1')
+            return false;
+        if (one->input[place] == '1' && other->input[place] == '0')
+            return false;
+    }
+    return true;
+}
+
+/* "two rows share an input vector and a state and name different next states"; "A row without a next state clashes with
+   none." */
+static bool clash(const struct second_row *one, const struct second_row *other, unsigned inputs)
+{
+    if (one->next == SECOND_NO_STATE || other->next == SECOND_NO_STATE)
+        return false;
+    if (one->next == other->next)
+        return false;
+    if ((one->group & other->group) == 0)
+        return false;
+    return inputs_share(one, other, inputs);
+}
+
+/* "Pairs for 6 are ordered by the earlier row and then the later one, and the scan stops at the first pair that
+   clashes"; the line is the later row's. */
+struct second_refusal second_find_conflict(const struct second_machine *machine)
+{
+    for (unsigned earlier = 0; earlier < machine->rows; earlier++)
+        for (unsigned later = earlier + 1; later < machine->rows; later++)
+            if (clash(&machine->row[earlier], &machine->row[later], machine->inputs))
+                return refuse(SECOND_CONFLICT, machine->row[later].line);
+    return refuse(SECOND_FINE, 0);
+}

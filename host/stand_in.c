@@ -1,0 +1,103 @@
+/* Stands in for the library while there is none: the second encoder's answers under the library's names, spoilt in one
+   way if STAND_IN_FAULT says so, to show that the comparison finds it. */
+#include "adapter.h"
+#include "library.h"
+
+#ifndef STAND_IN_FAULT
+#define STAND_IN_FAULT 0
+#endif
+
+static bool fault(unsigned number)
+{
+    return STAND_IN_FAULT == number;
+}
+
+static int64_t spoil(int64_t answer, const uint8_t *listing, size_t listing_length, uint8_t *out, size_t out_length)
+{
+    size_t length = answer < 0 ? 0 : (size_t)answer;
+    if (fault(1) && answer >= 0 && out_length > length)
+        out[length] ^= 1; /* a byte behind the answer's length */
+    if (fault(2) && answer >= 0)
+        out[-1] ^= 1; /* a byte before the buffer */
+    if (fault(3) && answer >= 0)
+        out[out_length] ^= 1; /* a byte behind the buffer */
+    if (fault(4) && answer == -1000000 && out_length > 0)
+        out[0] = 'C'; /* a refusal that writes */
+    if (fault(5) && answer >= 0 && length == out_length)
+        answer = -1000000; /* no room where there is just enough */
+    if (fault(6) && answer <= -600000 && answer > -700000)
+        answer--; /* the wrong line of a conflict */
+    if (fault(7) && answer <= -400000 && answer > -500000)
+        answer -= 100000; /* 5 for 4 */
+    if (fault(8) && answer >= 0)
+        for (size_t at = 0; at < length; at++)
+            if (out[at] == '-' && out[0] == '.') {
+                out[at] = '0'; /* a dash of a face */
+                break;
+            }
+    if (fault(9) && listing_length > 20)
+        ((uint8_t *)listing)[listing_length - 1] ^= 1; /* the listing itself */
+    if (fault(10) && answer >= 0)
+        for (size_t at = 0; at + 1 < length; at++)
+            if (out[at + 1] == '\n') {
+                out[at] ^= 1; /* the number of looks in CT, or of inputs in .i */
+                break;
+            }
+    if (fault(11) && answer == -700000)
+        answer = -900000;
+    if (fault(12) && answer == -900000)
+        answer = 0;
+    if (fault(13) && answer == -200000)
+        answer = -300001; /* too long, seen too late */
+    return answer;
+}
+
+int64_t tsurmokan_report(const uint8_t *listing, size_t listing_length, uint8_t *out, size_t out_length)
+{
+    return spoil(second_report(listing, listing_length, out, out_length), listing, listing_length, out, out_length);
+}
+
+int64_t tsurmokan_cover(const uint8_t *listing, size_t listing_length, uint8_t *out, size_t out_length)
+{
+    return spoil(second_cover(listing, listing_length, out, out_length), listing, listing_length, out, out_length);
+}
+
+static struct second_trial held;
+
+bool adapter_has_trial(void)
+{
+    return true;
+}
+
+unsigned adapter_start(uint64_t states, uint64_t bit, const uint64_t *firsts, size_t first_number,
+                       const uint64_t *seconds, size_t second_number)
+{
+    struct second_trial before = held;
+    unsigned answer = second_trial_start(states, bit, firsts, first_number, seconds, second_number, &held);
+    if (fault(14) && answer != SECOND_FINE)
+        held = before; /* a refused start that keeps the old record */
+    return answer;
+}
+
+unsigned adapter_move(uint64_t state)
+{
+    if (fault(15) && state < held.states)
+        held.moved &= ~((uint64_t)1 << state); /* a state that may move twice */
+    unsigned answer = second_trial_move(&held, state);
+    if (fault(16) && answer != SECOND_FINE && held.states > 0)
+        held.looks++; /* a refused move that changes the record */
+    return answer;
+}
+
+void adapter_view(uint64_t states, struct adapter_view *view)
+{
+    view->states = held.states;
+    view->requirements = held.number;
+    view->looks = second_trial_looks(&held);
+    for (uint64_t state = 0; state < states; state++) {
+        view->gain[state] = 0;
+        second_trial_gain(&held, state, &view->gain[state]);
+        if (fault(17) && (held.moved >> state & 1))
+            view->gain[state] = -view->gain[state]; /* a moved state's gain */
+    }
+}
