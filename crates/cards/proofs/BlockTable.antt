@@ -1,21 +1,19 @@
 -- The table of blocks, laid out in one go, holds the blocks of a listing.
-use mathlib.Core.Path.{_≡_, refl, sym, ap, ap₂, _∙_}
-use mathlib.Core.Bool.{true}
-use mathlib.Core.List.{List, [], _∷_, _++_, map}
-use Prim.Native.Nat.{ℕ, zero, suc, _+_, _-_, _*_, _^_, _≤_, _<_}
+use mathlib.Core.Path.{_≡_, refl, ap, _∙_}
+use mathlib.Core.List.{List, [], _∷_}
+use Prim.Native.Nat.{ℕ, zero, suc, _+_, _*_, _≤_, _<_}
 use native.Mathlib.Nat.{zero-add}
 use native.Mathlib.Omega.{arith}
-use lib.ListN.{length, getD, take, drop, set, length-set, length-map, length-take}
+use lib.ListN.{length, getD, set, length-set, length-map, length-take}
 use lib.Seq.{sets, length-sets, getD-set-same, getD-set-other}
 use Rattle.sets.specs.Sets.{only, statesFrom}
 use Rattle.rules.specs.Listing.{noRow, noRequirement, rowsOf, dichotomiesOf}
 use Rattle.rules.specs.declared.Row.{Row}
 use Rattle.rules.specs.declared.Requirement.{Requirement}
 use Rattle.rules.specs.declared.Listing.{Listing}
-use Rattle.cards.specs.Fair.{withinLimits}
 use Rattle.cards.specs.Cards.{groupPlace, firstPlace, secondPlace, Laid}
 use Rattle.cards.specs.BlockTable.{alone, groupsOf, sides, laidOut}
-use Rattle.cards.proofs.Limits.{Within, within}
+use Rattle.cards.proofs.Limits.{Within}
 
 -- ---- a run of stores
 
@@ -89,22 +87,22 @@ module _ (blocks xs ys zs : List ℕ) (long : 320 ≤ length blocks) (few-x : le
   long-x : 320 ≤ length (sets blocks 0 xs)
   long-x = omega (arith, length-sets blocks 0 xs)
 
-  long-y : 320 ≤ length (sets (sets blocks 0 xs) 64 ys)
-  long-y = omega (arith, long-x, length-sets (sets blocks 0 xs) 64 ys)
+  long-y : 320 ≤ length (sets (sets blocks 0 xs) (groupPlace 0) ys)
+  long-y = omega (arith, long-x, length-sets (sets blocks 0 xs) (groupPlace 0) ys)
 
   in-first : (j : ℕ) → j < length xs → getD (threeRuns blocks xs ys zs) j 0 ≡ getD xs j 0
   in-first j h =
-      sets-before (sets (sets blocks 0 xs) 64 ys) 192 zs j 0 (omega arith)
-      ∙ sets-before (sets blocks 0 xs) 64 ys j 0 (omega arith)
+      sets-before (sets (sets blocks 0 xs) (groupPlace 0) ys) (firstPlace 0) zs j 0 (omega arith)
+      ∙ sets-before (sets blocks 0 xs) (groupPlace 0) ys j 0 (omega arith)
       ∙ sets-within blocks 0 xs j j 0 (omega arith) h (omega arith)
 
   in-second : (j : ℕ) → j < length ys → getD (threeRuns blocks xs ys zs) (groupPlace j) 0 ≡ getD ys j 0
   in-second j h =
-      sets-before (sets (sets blocks 0 xs) 64 ys) 192 zs (64 + j) 0 (omega arith)
-      ∙ sets-within (sets blocks 0 xs) 64 ys j (64 + j) 0 refl h (omega (arith, long-x))
+      sets-before (sets (sets blocks 0 xs) (groupPlace 0) ys) (firstPlace 0) zs (groupPlace j) 0 (omega arith)
+      ∙ sets-within (sets blocks 0 xs) (groupPlace 0) ys j (groupPlace j) 0 (omega arith) h (omega (arith, long-x))
 
-  in-third : (j k : ℕ) → k ≡ 192 + j → j < length zs → getD (threeRuns blocks xs ys zs) k 0 ≡ getD zs j 0
-  in-third j k e h = sets-within (sets (sets blocks 0 xs) 64 ys) 192 zs j k 0 e h (omega (arith, long-y))
+  in-third : (j k : ℕ) → k ≡ firstPlace 0 + j → j < length zs → getD (threeRuns blocks xs ys zs) k 0 ≡ getD zs j 0
+  in-third j k e h = sets-within (sets (sets blocks 0 xs) (groupPlace 0) ys) (firstPlace 0) zs j k 0 e h (omega (arith, long-y))
 
 pub laid : (t : Listing) (blocks : List ℕ) → Within t → 320 ≤ length blocks → Laid t (laidOut t blocks)
 unfolding laidOut
@@ -123,6 +121,6 @@ laid t blocks w long =
     record {
       singles = λ s h. in-first blocks xs ys zs long few-x few-y few-z s (omega arith) ∙ alone-at 0 n s h ∙ ap (λ (k : ℕ). only k) (zero-add s);
       groups = λ r h. in-second blocks xs ys zs long few-x few-y few-z r (omega arith) ∙ groups-at (rowsOf t) r;
-      firsts = λ d h. in-third blocks xs ys zs long few-x few-y few-z (2 * d) (firstPlace d) refl (omega arith) ∙ first-at ds d h;
+      firsts = λ d h. in-third blocks xs ys zs long few-x few-y few-z (2 * d) (firstPlace d) (omega arith) (omega arith) ∙ first-at ds d h;
       seconds = λ d h. in-third blocks xs ys zs long few-x few-y few-z (1 + 2 * d) (secondPlace d) (omega arith) (omega arith) ∙ second-at ds d h;
     }

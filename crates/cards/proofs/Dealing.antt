@@ -1,14 +1,13 @@
 -- Cards that are dealt one list after the other: from where a loop stands, what is still to come makes the pile that all of it makes from the start.
-use mathlib.Core.Path.{_≡_, refl, sym, ap, ap₂, subst, _∙_}
+use mathlib.Core.Path.{_≡_, refl, sym, ap, ap₂, _∙_}
 use mathlib.Core.List.{List, [], _∷_, _++_}
-use Prim.Native.Nat.{ℕ, zero, suc, _+_, _≤_, _<_}
+use Prim.Native.Nat.{ℕ, suc, _+_, _≤_}
 use native.Mathlib.Nat.{add-zero}
-use native.Mathlib.Numerals.{add-one}
 use native.Mathlib.Omega.{arith}
-use lib.ListN.{length, take, drop, set, length-append, length-set}
+use lib.ListN.{length, take, drop, set, length-append, take-append-drop}
 use lib.Seq.{sets, length-sets, sets-eq, take-at, drop-at}
 use Rattle.cards.specs.Cards.{numbered, Pile}
-use Rattle.cards.specs.Dealing.{most-cards, Dealt, Room}
+use Rattle.cards.specs.Dealing.{Dealt, Room}
 
 -- ---- lists
 
@@ -98,3 +97,12 @@ dealt-pile start cs after r room d =
           ∙ drop-at (numbered 0 cs) (drop (0 + length (numbered 0 cs)) start) r long
           ∙ ap (λ (k : ℕ). drop k start) same,
     )
+
+-- any two results that the promise of a drawing allows are equal
+pub pile-once : (start cs a b : List ℕ) (r q : ℕ) → Pile a r cs × (drop r a ≡ drop r start) → Pile b q cs × (drop q b ≡ drop q start) → (r ≡ q) × (a ≡ b)
+pile-once start cs a b r q x y =
+    let same : r ≡ q = x .0 .count ∙ sym (y .0 .count) in
+    (same, sym (whole a r x) ∙ ap (λ (k : ℕ). numbered 0 cs ++ drop k start) same ∙ whole b q y)
+  where
+    whole : (l : List ℕ) (k : ℕ) → Pile l k cs × (drop k l ≡ drop k start) → numbered 0 cs ++ drop k start ≡ l
+    whole l k z = ap₂ (λ (m n : List ℕ). m ++ n) (sym (z .0 .dealt)) (sym (z .1)) ∙ take-append-drop k l

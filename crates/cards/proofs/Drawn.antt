@@ -2,7 +2,7 @@
 use mathlib.Core.Path.{_≡_, refl, sym, ap, ap₂, _∙_}
 use mathlib.Core.Bool.{Bool, true, false, cond}
 use mathlib.Core.List.{List, [], _∷_, _++_, map, map-append, append-assoc}
-use Prim.Native.Nat.{ℕ, zero, suc, _+_, _*_, _/_, _%_, _≤_, _<_}
+use Prim.Native.Nat.{ℕ, zero, suc, _+_, _/_, _%_, _≤_, _<_}
 use native.Mathlib.Omega.{arith}
 use lib.ListN.{length, getD, length-take}
 use Rattle.sets.specs.Sets.{has, only, statesFrom}
@@ -14,7 +14,8 @@ use Rattle.rules.specs.declared.Listing.{Listing}
 use Rattle.rules.proofs.Runs.{Below}
 use Rattle.rules.proofs.Asked.{outside-not, outside-member, newGroup, groups-step}
 use Rattle.passes.specs.Moves.{requirementOf, drawn}
-use Rattle.cards.specs.Cards.{groupPlace, firstPlace, secondPlace, Laid, placed, withStates, pairCards, asksNew, rowCards, groupCards, dichotomyCards, cardsOf}
+use Rattle.cards.specs.Cards.{groupPlace, firstPlace, secondPlace, Laid}
+use Rattle.cards.specs.Cards.{placed, withStates, pairCards, asksNew, rowCards, groupCards, dichotomyCards, cardsOf}
 use Rattle.cards.proofs.Limits.{Within}
 
 -- ---- one card

@@ -1,16 +1,15 @@
 -- Of every fair listing: its cards show its requirements, in order, each under its own number; there are at most 4,400; each is good.
 -- Every listing that a reader accepts is fair.
-use mathlib.Core.Path.{_≡_, refl, sym, ap, subst, _∙_}
+use mathlib.Core.Path.{_≡_, sym, ap, subst, _∙_}
 use mathlib.Core.Bool.{true}
 use mathlib.Core.List.{List}
-use Prim.Native.Nat.{ℕ, _+_, _≤_, _<_}
+use Prim.Native.Nat.{ℕ, _≤_, _<_}
 use native.Mathlib.Nat.{zero-add}
 use native.Mathlib.Omega.{arith}
 use lib.ListN.{length, getD, replicate, length-map, length-replicate, length-take}
 use lib.Seq.{getD-take}
 use Rattle.rules.specs.Listing.{noRequirement}
 use Rattle.rules.specs.Requirements.{requirements}
-use Rattle.rules.specs.declared.Requirement.{Requirement}
 use Rattle.rules.specs.declared.Listing.{Listing}
 use Rattle.rules.proofs.Sound.{Sound, rows-length, row-of}
 use Rattle.rules.proofs.Most.{most-requirements}
@@ -20,7 +19,7 @@ use Rattle.cards.specs.Fair.{fair}
 use Rattle.cards.specs.Cards.{Laid, cardsOf, numbered}
 use Rattle.cards.specs.Dealing.{most-cards}
 use Rattle.cards.specs.BlockTable.{laidOut}
-use Rattle.cards.proofs.Limits.{Fair, fair-grants, grants-fair}
+use Rattle.cards.proofs.Limits.{fair-grants, grants-fair}
 use Rattle.cards.proofs.BlockTable.{laid}
 use Rattle.cards.proofs.Numbers.{plain-cards, number-is, drawn-numbered}
 use Rattle.cards.proofs.Drawn.{cards-show}

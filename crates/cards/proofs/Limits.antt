@@ -1,17 +1,16 @@
 -- What a fair listing grants, as facts about its numbers, its rows and its dichotomies.
-use mathlib.Core.Path.{_≡_, refl, sym, ap, _∙_}
-use mathlib.Core.Bool.{Bool, true, false, _&&_}
+use mathlib.Core.Path.{_≡_, refl, _∙_}
+use mathlib.Core.Bool.{Bool, true, _&&_}
 use mathlib.Core.List.{List, [], _∷_}
-use Prim.Native.Nat.{ℕ, zero, suc, _+_, _^_, _≤_, _<_}
+use Prim.Native.Nat.{ℕ, zero, suc, _^_, _≤_, _<_}
 use native.Mathlib.Omega.{arith}
 use lib.Bits.{bitAnd}
 use lib.Dec.{leb, ltb, eqb}
-use lib.ListN.{length, getD, take, drop}
+use lib.ListN.{length, getD}
 use borrow.Author.Tests.{leb-true, ltb-true, eqb-true, le-leb, lt-ltb, eq-eqb}
 use Rattle.sets.proofs.Every.{and-first, and-second, and-both}
 use Rattle.rules.specs.Limits.{most-states, most-bits, most-rows, most-dichotomies}
 use Rattle.rules.specs.Listing.{noRow, noRequirement, rowsOf, dichotomiesOf}
-use Rattle.rules.specs.declared.Row.{Row}
 use Rattle.rules.specs.declared.Requirement.{Requirement}
 use Rattle.rules.specs.declared.Listing.{Listing}
 use Rattle.rules.proofs.SoundLines.{SoundBlocks}
@@ -85,7 +84,8 @@ blocks-grant n d e =
     }
 
 grant-blocks : (n : ℕ) (d : Requirement) → SoundBlocks n d → blocksWithin n d ≡ true
-grant-blocks n d s = blocks-each n d (lt-ltb (d .first) (2 ^ n) (s .first)) (lt-ltb (d .second) (2 ^ n) (s .second)) ∙ eq-eqb (bitAnd (d .first) (d .second)) 0 (s .apart)
+grant-blocks n d s =
+    blocks-each n d (lt-ltb (d .first) (2 ^ n) (s .first)) (lt-ltb (d .second) (2 ^ n) (s .second)) ∙ eq-eqb (bitAnd (d .first) (d .second)) 0 (s .apart)
 
 pub record Fair (t : Listing) : Type 0 where
   pub limits : Within t
@@ -111,12 +111,18 @@ fair-grants t e =
       dichotomy = λ k h. blocks-grant n _ (each-at (blocksWithin n) noRequirement (dichotomiesOf t) (and-second gs ds e₁) k h);
     }
 
+grants-limits : (t : Listing) → Within t → withinLimits t ≡ true
+grants-limits t w =
+    limits-each t
+    (le-leb 1 (t .head .states) (w .some-states))
+    (le-leb (t .head .states) most-states (w .few-states))
+    (le-leb (t .head .width) most-bits (w .few-bits))
+    (le-leb (t .rows) most-rows (w .few-rows))
+    ∙ le-leb (t .dichotomies) most-dichotomies (w .few-dichotomies)
+
 pub grants-fair : (t : Listing) → Fair t → fair t ≡ true
 grants-fair t f =
     let n : ℕ = t .head .states in
-    let w = f .limits in
-    fair-each t
-    (limits-each t (le-leb 1 n (w .some-states)) (le-leb n most-states (w .few-states)) (le-leb (t .head .width) most-bits (w .few-bits)) (le-leb (t .rows) most-rows (w .few-rows))
-    ∙ le-leb (t .dichotomies) most-dichotomies (w .few-dichotomies))
+    fair-each t (grants-limits t (f .limits))
     (at-each (groupWithin n) noRow (rowsOf t) (λ k h. lt-ltb _ (2 ^ n) (f .group k h)))
     ∙ at-each (blocksWithin n) noRequirement (dichotomiesOf t) (λ k h. grant-blocks n _ (f .dichotomy k h))

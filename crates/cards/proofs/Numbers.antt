@@ -1,9 +1,8 @@
 -- A card's number stands below its blocks' places: it is read back from the card, and changes neither block.
-use mathlib.Core.Path.{_≡_, refl, sym, ap, ap₂, _∙_}
+use mathlib.Core.Path.{_≡_, refl, ap, ap₂, _∙_}
 use mathlib.Core.Bool.{Bool, true, false, cond}
-use mathlib.Core.List.{List, [], _∷_, _++_, map}
-use Prim.Native.Nat.{ℕ, zero, suc, _+_, _*_, _/_, _%_, _≤_, _<_}
-use native.Mathlib.Nat.{add-zero}
+use mathlib.Core.List.{List, [], _∷_, _++_}
+use Prim.Native.Nat.{ℕ, zero, suc, _+_, _/_, _%_, _≤_, _<_}
 use native.Mathlib.Omega.{arith}
 use lib.ListN.{length, getD}
 use Rattle.sets.specs.Sets.{statesFrom}
@@ -12,8 +11,8 @@ use Rattle.rules.specs.Requirements.{asks, outside}
 use Rattle.rules.specs.declared.Requirement.{Requirement}
 use Rattle.rules.specs.declared.Row.{Row}
 use Rattle.rules.specs.declared.Listing.{Listing}
-use Rattle.passes.specs.Moves.{numberOf, firstOf, secondOf, requirementOf, drawn}
-use Rattle.cards.specs.Cards.{groupPlace, firstPlace, secondPlace, placed, withStates, pairCards, asksNew, rowCards, groupCards, dichotomyCards, cardsOf, numbered}
+use Rattle.passes.specs.Moves.{numberOf, drawn}
+use Rattle.cards.specs.Cards.{groupPlace, withStates, pairCards, asksNew, rowCards, groupCards, dichotomyCards, cardsOf, numbered}
 
 -- ---- cards without a number
 
@@ -45,7 +44,8 @@ plain-groups : (n r : ℕ) (earlier : List ℕ) (rows : List Row) → AllPlain (
 unfolding groupCards
 plain-groups n r earlier [] = tt
 plain-groups n r earlier (x ∷ xs) =
-    plain-append (rowCards n r earlier x) (groupCards n (r + 1) (x .group ∷ earlier) xs) (plain-row n r earlier x) (plain-groups n (r + 1) (x .group ∷ earlier) xs)
+    let hs = x .group ∷ earlier in
+    plain-append (rowCards n r earlier x) (groupCards n (r + 1) hs xs) (plain-row n r earlier x) (plain-groups n (r + 1) hs xs)
 
 plain-dichotomies : (d k : ℕ) → AllPlain (dichotomyCards d k)
 unfolding dichotomyCards
@@ -55,8 +55,9 @@ plain-dichotomies d (suc k) = (omega arith, plain-dichotomies (d + 1) k)
 pub plain-cards : (t : Listing) → AllPlain (cardsOf t)
 unfolding cardsOf
 plain-cards t =
-    plain-append (pairCards (statesFrom 0 (t .head .states))) _ (plain-pairs (statesFrom 0 (t .head .states)))
-    (plain-append (groupCards (t .head .states) 0 [] (rowsOf t)) _ (plain-groups (t .head .states) 0 [] (rowsOf t)) (plain-dichotomies 0 (length (dichotomiesOf t))))
+    let n : ℕ = t .head .states in
+    plain-append (pairCards (statesFrom 0 n)) _ (plain-pairs (statesFrom 0 n))
+    (plain-append (groupCards n 0 [] (rowsOf t)) _ (plain-groups n 0 [] (rowsOf t)) (plain-dichotomies 0 (length (dichotomiesOf t))))
 
 -- ---- and with one
 

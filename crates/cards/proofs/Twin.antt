@@ -3,13 +3,13 @@
 use mathlib.Core.Path.{_≡_, refl, sym, ap, ap₂, _∙_}
 use mathlib.Core.Bool.{Bool, true, false, _&&_, _||_, not, cond}
 use mathlib.Core.List.{List, [], _∷_, _++_, map}
-use Prim.Native.Nat.{ℕ, zero, suc, _+_, _-_, _^_, _≤_, _<_}
+use Prim.Native.Nat.{ℕ, zero, suc, _-_, _^_, _≤_, _<_}
 use native.Mathlib.Omega.{arith}
 use lib.Dec.{leb, ltb, eqb}
-use lib.ListN.{length, getD, take, replicate, length-append, length-map, length-replicate, length-take, List·getD-append}
+use lib.ListN.{length, getD, replicate, length-append, length-map, length-replicate, length-take, List·getD-append}
 use lib.Pow.{pow-pos, pow-lt}
 use lib.Seq.{take-at}
-use borrow.Author.Tests.{eqb-true, eqb-false, leb-true, ne-eqb}
+use borrow.Author.Tests.{leb-true, ne-eqb}
 use Rattle.sets.specs.Sets.{size, statesFrom}
 use Rattle.rules.specs.Limits.{most-rows, most-dichotomies}
 use Rattle.rules.specs.Listing.{noRow, noRequirement, rowsOf, dichotomiesOf}
@@ -18,9 +18,9 @@ use Rattle.rules.specs.declared.Row.{Row}
 use Rattle.rules.specs.declared.Requirement.{Requirement}
 use Rattle.rules.specs.declared.Listing.{Listing}
 use Rattle.rules.proofs.Asked.{newGroup, groups-step}
-use Rattle.rules.proofs.SoundLines.{SoundPattern, SoundRow, SoundBlocks}
+use Rattle.rules.proofs.SoundLines.{SoundPattern, SoundRow}
 use Rattle.rules.proofs.Sound.{Sound}
-use Rattle.cards.proofs.Limits.{Within, Fair}
+use Rattle.cards.proofs.Limits.{Fair}
 
 -- ---- the twin
 
@@ -104,6 +104,9 @@ same-requirements t =
 filled-length : {A : Type 0} (w : ℕ) (a : A) (l : List A) → length l ≤ w → length (filled w a l) ≡ w
 filled-length w a l h = omega (arith, length-append l (replicate (w - length l) a), length-replicate (w - length l) a)
 
+filled-at : {A : Type 0} (w : ℕ) (a : A) (l : List A) (d : A) (k : ℕ) → k < length l → getD (filled w a l) k d ≡ getD l k d
+filled-at w a l d k h = List·getD-append l (replicate (w - length l) a) d k h
+
 map-at : {A B : Type 0} (f : A → B) (d : A) (e : B) (l : List A) (k : ℕ) → k < length l → getD (map f l) k e ≡ f (getD l k d)
 map-at f d e [] k h = absurd (omega arith)
 map-at f d e (x ∷ xs) zero h = refl
@@ -155,9 +158,9 @@ module _ (t : Listing) (f : Fair t) where
         };
         few-rows = few-rows;
         table = filled-length most-rows noRow (map twinRow rows) (omega arith);
-        row = λ k h. rw (List·getD-append (map twinRow rows) (replicate (most-rows - length (map twinRow rows)) noRow) noRow k (omega arith), map-at twinRow noRow noRow rows k h)
+        row = λ k h. rw (filled-at most-rows noRow (map twinRow rows) noRow k (omega arith), map-at twinRow noRow noRow rows k h)
             (twin-row (getD rows k noRow) (f .group k h));
         few-dichotomies = few-ds;
         asked = filled-length most-dichotomies noRequirement ds few-ds;
-        dichotomy = λ k h. rw (List·getD-append ds (replicate (most-dichotomies - length ds) noRequirement) noRequirement k h) (f .dichotomy k h);
+        dichotomy = λ k h. rw (filled-at most-dichotomies noRequirement ds noRequirement k h) (f .dichotomy k h);
       }

@@ -1,15 +1,14 @@
 -- Requirements as cards: where each block stands in the table of blocks, and a card for each requirement, in 01's order.
-use mathlib.Core.Bool.{Bool, true, false, _&&_, not, cond}
+use mathlib.Core.Bool.{Bool, _&&_, not, cond}
 use mathlib.Core.Path.{_≡_}
 use mathlib.Core.List.{List, [], _∷_, _++_, map}
-use Prim.Native.Nat.{ℕ, zero, suc, _+_, _-_, _*_, _≤_, _<_}
+use Prim.Native.Nat.{ℕ, zero, suc, _+_, _*_, _≤_, _<_}
 use lib.Dec.{leb, ltb}
-use lib.ListN.{length, getD, take, drop}
+use lib.ListN.{length, getD, take}
 use Rattle.sets.specs.Sets.{only, size, statesFrom}
 use Rattle.rules.specs.Listing.{noRow, noRequirement, rowsOf, dichotomiesOf}
 use Rattle.rules.specs.Requirements.{outside, stood}
 use Rattle.rules.specs.declared.Row.{Row}
-use Rattle.rules.specs.declared.Requirement.{Requirement}
 use Rattle.rules.specs.declared.Listing.{Listing}
 
 -- The block of state s alone stands at s; the group of row r at 64 + r; the blocks of dichotomy d at 192 + 2 d and behind it.

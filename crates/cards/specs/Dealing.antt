@@ -6,7 +6,8 @@ use lib.ListN.{length, getD}
 use lib.Seq.{sets}
 use Rattle.rules.specs.Listing.{noRow}
 use Rattle.rules.specs.declared.Row.{Row}
-use Rattle.cards.specs.Cards.{numbered}
+use Rattle.rules.specs.declared.Listing.{Listing}
+use Rattle.cards.specs.Cards.{rowCards, numbered}
 
 -- the most cards of a listing
 abbrev pub most-cards : ℕ
@@ -26,3 +27,7 @@ pub record Room (pile : List ℕ) (k : ℕ) (cs : List ℕ) : Type 0 where
 unfoldable pub earlierGroups : List Row → ℕ → List ℕ
 earlierGroups rows zero = []
 earlierGroups rows (suc r) = getD rows r noRow .group ∷ earlierGroups rows r
+
+-- the cards of row r of a listing
+abbrev pub cardsOfRow : Listing → ℕ → List ℕ
+cardsOfRow t r = rowCards (t .head .states) r (earlierGroups (t .table) r) (getD (t .table) r noRow)

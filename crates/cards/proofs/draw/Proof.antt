@@ -1,16 +1,10 @@
-use Prim.Native.Nat.{ℕ, zero, suc, _≤_, _<_, _-_, _+_, _*_, _^_}
+-- `cards::draw` meets its contract: pairs, groups and dichotomies, one behind the other, are all the cards.
+use Prim.Native.Nat.{ℕ}
 use mathlib.Core.Path.{_≡_, refl, sym, ap, _∙_}
-use mathlib.Core.Logic.{⊎-elim}
-use mathlib.Core.List.{List, [], _∷_, _++_}
-use mathlib.Core.Bool.{Bool, true, false}
+use mathlib.Core.List.{List, [], _++_, append-nil}
 use native.Mathlib.Omega.{arith}
-use native.Mathlib.Numerals.{add-one}
 use borrow.Author.Needs.{needs}
-use borrow.Author.Tests.{lt-ltb, le-ltb, le-leb, lt-leb, eq-eqb, ne-eqb, not-true, not-false}
-use lib.ListN.{length, length-map, length-take, take, drop, getD, set}
-use borrow.Author.Needs.{needs}
-use native.Mathlib.Nat.{zero-add}
-use mathlib.Core.List.{append-nil}
+use lib.ListN.{length, length-map, length-take}
 use Rattle.sets.specs.Sets.{statesFrom}
 use Rattle.rules.specs.Listing.{rowsOf, dichotomiesOf}
 use Rattle.rules.specs.declared.Listing.{Listing}
@@ -21,11 +15,6 @@ use Rattle.cards.proofs.Dealing.{Ahead, ahead-first, ahead-room, ahead-
 use Rattle.cards.proofs.FairListings.{few-cards}
 use Rattle.cards.proofs.draw.Statement.{statement}
 use Rattle.cards.proofs.draw.Tie as tie
-use Rattle.cards.proofs.draw.Reads as reads
-use Rattle.cards.proofs.draw.Lts as lts
-use Rattle.cards.proofs.draw_dichotomies.Reads as draw-dichotomies-reads
-use Rattle.cards.proofs.draw_groups.Reads as draw-groups-reads
-use Rattle.cards.proofs.draw_pairs.Reads as draw-pairs-reads
 
 -- what is to come behind the pairs
 abbrev behind : Listing → List ℕ
@@ -43,31 +32,31 @@ three-parts c =
 room : (c : tie.Start) → Room (c .args .cards .now) 0 (cardsOf (c .args .t))
 room c = record { few = omega (arith, few-cards (c .args .t) (c .pre .0)); long = c .pre .1 }
 
-pairs-dealt : (c : tie.After-draw-pairs) → let s = c .before .before .before in
-    Ahead (c .draw-pairs .last .1 .0) (c .draw-pairs .result) (behind (s .args .t)) (s .args .cards .now) 0 (cardsOf (s .args .t))
+pairs-dealt : (c : tie.After-pairs) → let s = c .before .before .before in
+    Ahead (c .pairs .last .1 .0) (c .pairs .result) (behind (s .args .t)) (s .args .cards .now) 0 (cardsOf (s .args .t))
 pairs-dealt c =
     let s = c .before .before .before in
-    ahead-goes (ahead-first (s .args .cards .now) 0 (three-parts s)) _ _ refl _ _ (c .draw-pairs .ensures)
+    ahead-goes (ahead-first (s .args .cards .now) 0 (three-parts s)) _ _ refl _ _ (c .pairs .ensures)
 
-groups-dealt : (c : tie.After-draw-groups) → let s = c .before .before .before .before .before .before .before in
-    Ahead (c .draw-groups .last .1 .1 .0) (c .draw-groups .result) (dichotomyCards 0 (s .args .t .dichotomies)) (s .args .cards .now) 0 (cardsOf (s .args .t))
-groups-dealt c = ahead-goes (pairs-dealt (c .before .before .before .before)) _ _ refl _ _ (c .draw-groups .ensures)
+groups-dealt : (c : tie.After-groups) → let s = c .before .before .before .before .before .before .before in
+    Ahead (c .groups .last .1 .1 .0) (c .groups .result) (dichotomyCards 0 (s .args .t .dichotomies)) (s .args .cards .now) 0 (cardsOf (s .args .t))
+groups-dealt c = ahead-goes (pairs-dealt (c .before .before .before .before)) _ _ refl _ _ (c .groups .ensures)
 
-draw-pairs-requires : tie.Need-draw-pairs-requires
-draw-pairs-requires c κs =
+pairs-requires : tie.Need-pairs-requires
+pairs-requires c κs =
     let s = c .before .before in (
       within (s .args .t) (fair-limits (s .args .t) (s .pre .0)) .few-states,
       ahead-room (ahead-first (s .args .cards .now) 0 (three-parts s)) _ _ refl (room s),
     )
 
-draw-groups-requires : tie.Need-draw-groups-requires
-draw-groups-requires c κs =
+groups-requires : tie.Need-groups-requires
+groups-requires c κs =
     let x = c .before .before .before in
     let s = x .before .before .before in
     (fair-limits (s .args .t) (s .pre .0), ahead-room (pairs-dealt x) _ _ refl (room s))
 
-draw-dichotomies-requires : tie.Need-draw-dichotomies-requires
-draw-dichotomies-requires c κs =
+dichotomies-requires : tie.Need-dichotomies-requires
+dichotomies-requires c κs =
     let y = c .before .before .before in
     let s = y .before .before .before .before .before .before .before in (
       within (s .args .t) (fair-limits (s .args .t) (s .pre .0)) .few-dichotomies,
@@ -82,15 +71,15 @@ returns c =
     let z = c .before .before in
     let y = z .before .before .before .before in
     let s = y .before .before .before .before .before .before .before in
-    let all = ahead-goes (groups-dealt y) _ _ (sym (append-nil _)) _ _ (z .draw-dichotomies .ensures) in
+    let all = ahead-goes (groups-dealt y) _ _ (sym (append-nil _)) _ _ (z .dichotomies .ensures) in
     dealt-pile (s .args .cards .now) (cardsOf (s .args .t)) _ _ (room s) (ahead-done all refl)
 
 pub draw-spec : {M : Type 1} → statement M
 draw-spec =
     tie.close
     (tie.spec
-    draw-pairs-requires
-    draw-groups-requires
-    draw-dichotomies-requires
+    pairs-requires
+    groups-requires
+    dichotomies-requires
     same-length
     returns)

@@ -2,7 +2,6 @@
 use Rattle.rules.specs.Limits.{most-bits}
 use Rattle.rules.specs.Requirements.{requirements}
 use Rattle.passes.specs.Moves.{drawn}
-use Rattle.cards.proofs.Limits.{fair-limits}
 use Rattle.codes.specs.Build.{Done}
 use Rattle.codes.proofs.Encoded.{pile-shows, as-many-asked, begun, stalls, too-wide, wide-enough, it-stalled, it-is-done}
 use Prim.Native.Nat.{ℕ, zero, suc, _≤_, _<_, _-_, _+_, _*_, _^_}
@@ -46,7 +45,7 @@ slice-aggregate-lay-blocks : tie.Need-slice-aggregate-lay-blocks
 slice-aggregate-lay-blocks c = search needs
 
 lay-blocks-requires : tie.Need-lay-blocks-requires
-lay-blocks-requires c κs = (fair-limits _ (c .before .before .pre), rw (c .before .no-blocks .ensures) (omega (arith, length-replicate {A = ℕ} 320 0)))
+lay-blocks-requires c κs = (c .before .before .pre, rw (c .before .no-blocks .ensures) (omega (arith, length-replicate {A = ℕ} 320 0)))
 
 no-cards-requires : tie.Need-no-cards-requires
 no-cards-requires c κs = search needs
