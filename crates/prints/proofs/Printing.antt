@@ -1,13 +1,12 @@
--- With room enough, what is printed of what was said is 01's reply, printed.
-use mathlib.Core.Path.{_≡_, refl, sym, ap, _∙_, subst}
+-- What is printed of what was said is 01's reply, printed, where there is room enough; and it fits.
+use mathlib.Core.Path.{_≡_, refl, sym, ap, ap₂, _∙_, subst}
 use mathlib.Core.Bool.{Bool, true, false, cond}
 use mathlib.Core.List.{List, [], _∷_, _++_}
 use Prim.Native.Nat.{ℕ, _+_, _^_, _≤_, _<_}
 use native.Mathlib.Omega.{arith}
-use borrow.Author.Tests.{le-leb}
-use lib.Dec.{leb}
-use lib.ListN.{length, take, drop, length-append}
-use lib.Seq.{take-append-seam}
+use borrow.Author.Tests.{le-leb, lt-ltb, le-ltb, ltb-false}
+use lib.Dec.{leb, ltb}
+use lib.ListN.{length, drop, length-append}
 use Rattle.rules.specs.Text.{bytes, space, lf, decimal}
 use Rattle.rules.specs.Refusals.{number}
 use Rattle.rules.specs.Answers.{Reply, says, refuses, printed}
@@ -15,35 +14,36 @@ use Rattle.rules.specs.declared.Refusal.{Refusal}
 use Rattle.rules.specs.declared.Refusal.the-variants.{BadLine, Limit, Place, EmptyGroup, NextState, Conflict, TooWide, Stalled, Unmet, NoRoom, BadCall}
 use Rattle.pen.specs.Pen.{Wrote}
 use Rattle.pen.proofs.Decimal.{decimal-length}
-use Rattle.pen.proofs.Laws.{wrote-length, wrote-part}
+use Rattle.pen.proofs.Laws.{wrote-length, wrote-all}
 use Rattle.replies.specs.declared.Said.{Said}
 use Rattle.replies.specs.Saying.{saying}
 use Rattle.replies.proofs.Small.{Small}
-use Rattle.prints.specs.Told.{told, Holding}
+use Rattle.prints.specs.Told.{atStart, told, printing, Holding}
 
 -- what is said holds, and is told as the reply
-record Right (reply : Reply) (said : Said) (after : List ℕ) (room : ℕ) : Type 0 where
-  pub holding : Holding said room
-  pub telling : told said after ≡ printed reply
+record Right (reply : Reply) (out : List ℕ) (said : Said) (after : List ℕ) : Type 0 where
+  pub holding : Holding said (length out)
+  pub telling : told said after ≡ atStart (printed reply) out
 
-right : (reply : Reply) (out : List ℕ) → Small reply → 100000 ≤ length out → Right reply (saying reply out .0) (saying reply out .1) (length out)
+right : (reply : Reply) (out : List ℕ) → Small reply → 100000 ≤ length out → Right reply out (saying reply out .0) (saying reply out .1)
 unfolding saying told printed
 right (says text) out h room =
     let l : length text ≤ length out = omega arith in
-    subst (λ (b : Bool). let c : Said × List ℕ = cond b (Said.Text (length text), text ++ drop (length text) out) (Said.Refused NoRoom 0, out) in Right (says text) (c .0) (c .1) (length out))
+    subst (λ (b : Bool). let c : Said × List ℕ = cond b (Said.Text (length text), text ++ drop (length text) out) (Said.Refused NoRoom 0, out) in Right (says text) out (c .0) (c .1))
     (sym (le-leb (length text) (length out) l))
-    (record { holding = l; telling = take-append-seam text (drop (length text) out) })
+    (record { holding = l; telling = refl })
 right (refuses r line) out h room = record { holding = (h, room); telling = refl }
 
 module _ (reply : Reply) (out : List ℕ) (said : Said) (after : List ℕ) (e : _≡_ {A = Said × List ℕ} (said, after) (saying reply out)) (h : Small reply) (room : 100000 ≤ length out) where
-  here : Right reply said after (length out)
-  here = subst (λ (p : Said × List ℕ). Right reply (p .0) (p .1) (length out)) (sym e) (right reply out h room)
+  here : Right reply out said after
+  here = subst (λ (p : Said × List ℕ). Right reply out (p .0) (p .1)) (sym e) (right reply out h room)
 
   pub it-holds : Holding said (length out)
   it-holds = here .holding
 
-  pub it-tells : told said after ≡ printed reply
-  it-tells = here .telling
+  pub it-tells : (p : ℕ × List ℕ) → p ≡ told said after → p ≡ printing reply out
+  unfolding printing
+  it-tells p q = q ∙ here .telling ∙ sym (ap (λ (b : Bool). cond b (0, out) (atStart (printed reply) out)) (le-ltb (length out) 100000 room))
 
 -- ---- a refusal is short
 
@@ -67,17 +67,37 @@ refusal-length r line h =
     let b : length (decimal line) ≤ 5 = decimal-length 4 line (omega arith) in
     simp length-append (omega arith)
 
+reply-length : (reply : Reply) → Small reply → length (printed reply) < 100000
+unfolding printed
+reply-length (says text) h = h
+reply-length (refuses r line) h = omega (arith, refusal-length r line h)
+
 -- ---- the two ways to tell
 
 module _ (out : List ℕ) (said : Said) (h : Holding said (length out)) where
-  pub tell-text : (n : ℕ) → said ≡ Said.Text n → (n ≤ length out) × (take n out ≡ told said out)
+  pub tell-text : (n : ℕ) → said ≡ Said.Text n → _≡_ {A = ℕ × List ℕ} (n, out) (told said out)
   unfolding told
-  tell-text n e = (subst (λ (x : Said). Holding x (length out)) e h, sym (ap (λ (x : Said). told x out) e))
+  tell-text n e = sym (ap (λ (x : Said). told x out) e)
 
   pub tell-refusal : (r : Refusal) (line : ℕ) → said ≡ Said.Refused r line → (k : ℕ) (after : List ℕ) → Wrote out 0 (printed (refuses r line)) k after
-      → (k ≤ length out) × (take k after ≡ told said out)
+      → _≡_ {A = ℕ × List ℕ} (k, after) (told said out)
   unfolding told
   tell-refusal r line e k after w =
       let g : Holding (Said.Refused r line) (length out) = subst (λ (x : Said). Holding x (length out)) e h in
       let few : length (printed (refuses r line)) ≤ 20 = refusal-length r line (g .0) in
-      (omega (arith, wrote-length w (omega arith), g .1), wrote-part w (omega (arith, g .1)) ∙ sym (ap (λ (x : Said). told x out) e))
+      ap₂ (λ (j : ℕ) (x : List ℕ). (j, x)) (wrote-length w (omega arith)) (wrote-all w (omega (arith, g .1))) ∙ sym (ap (λ (x : Said). told x out) e)
+
+-- ---- too little room, and what a program may count on
+
+module _ (reply : Reply) (out : List ℕ) where
+  pub nothing-printed : length out < 100000 → _≡_ {A = ℕ × List ℕ} (0, out) (printing reply out)
+  unfolding printing
+  nothing-printed h = sym (ap (λ (b : Bool). cond b (0, out) (atStart (printed reply) out)) (lt-ltb (length out) 100000 h))
+
+  printed-few : (b : Bool) → ltb (length out) 100000 ≡ b → Small reply → cond b (0, out) (atStart (printed reply) out) .0 ≤ length out
+  printed-few true e h = omega arith
+  printed-few false e h = omega (arith, ltb-false (length out) 100000 e, reply-length reply h)
+
+  pub printing-fits : (r : ℕ) (after : List ℕ) → _≡_ {A = ℕ × List ℕ} (r, after) (printing reply out) → Small reply → r ≤ length out
+  unfolding printing
+  printing-fits r after e h = subst (λ (k : ℕ). k ≤ length out) (sym (ap (λ (p : ℕ × List ℕ). p .0) e)) (printed-few (ltb (length out) 100000) refl h)

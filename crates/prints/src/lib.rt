@@ -1,9 +1,8 @@
 // What a program prints for a listing: the text, or `NO number line`.
 ghost use mathlib.Core.Path.{_≡_};
-ghost use Prim.Native.Nat.{_≤_};
-ghost use lib.ListN.{length, take};
-ghost use Rattle.rules.specs.Answers.{reportReply, coverReply, printed};
-ghost use Rattle.prints.specs.Told.{told, Holding};
+ghost use lib.ListN.{length};
+ghost use Rattle.rules.specs.Answers.{reportReply, coverReply};
+ghost use Rattle.prints.specs.Told.{told, printing, Holding};
 
 // So many bytes of room are always enough.
 pub const ROOM: usize = 100000;
@@ -11,7 +10,7 @@ pub const ROOM: usize = 100000;
 // A refusal is written over the buffer; a text stands there already. The answer is how many bytes are to be printed.
 fn tell(said: replies::Said, out: &mut [u8]) -> usize
     requires { ⌜ Holding said (length (now out)) ⌝ }
-    ensures { λ r. ⌜ (r ≤ length (now (out .entry))) × (take r (now (out .exit)) ≡ told said (now (out .entry))) ⌝ }
+    ensures { λ r. ⌜ (r, now (out .exit)) ≡ told said (now (out .entry)) ⌝ }
 {
     match said {
         replies::Said::Text(n) => n,
@@ -21,8 +20,7 @@ fn tell(said: replies::Said, out: &mut [u8]) -> usize
 
 // The report, printed into the buffer; nothing, if it has less room than is always enough.
 pub fn print_report(listing: &[u8], out: &mut [u8]) -> usize
-    ensures { λ r. ⌜ (r ≤ length (now (out .entry)))
-        × (100000 ≤ length (now (out .entry)) → take r (now (out .exit)) ≡ printed (reportReply (now (listing .entry)))) ⌝ }
+    ensures { λ r. ⌜ (r, now (out .exit)) ≡ printing (reportReply (now (listing .entry))) (now (out .entry)) ⌝ }
 {
     if out.len() < ROOM {
         return 0;
@@ -33,8 +31,7 @@ pub fn print_report(listing: &[u8], out: &mut [u8]) -> usize
 
 // The cover, likewise.
 pub fn print_cover(listing: &[u8], out: &mut [u8]) -> usize
-    ensures { λ r. ⌜ (r ≤ length (now (out .entry)))
-        × (100000 ≤ length (now (out .entry)) → take r (now (out .exit)) ≡ printed (coverReply (now (listing .entry)))) ⌝ }
+    ensures { λ r. ⌜ (r, now (out .exit)) ≡ printing (coverReply (now (listing .entry))) (now (out .entry)) ⌝ }
 {
     if out.len() < ROOM {
         return 0;

@@ -1,5 +1,8 @@
 -- `cover::main` prints no more than it was given to print.
 use lib.Seq.{length-take-le}
+use Rattle.rules.specs.Answers.{coverReply}
+use Rattle.replies.proofs.Small.{cover-small}
+use Rattle.prints.proofs.Printing.{printing-fits}
 use Prim.Native.Nat.{ℕ, zero, suc, _≤_, _<_, _-_, _+_, _*_, _^_}
 use mathlib.Core.Path.{_≡_, refl, sym, ap, _∙_}
 use mathlib.Core.Logic.{⊎-elim}
@@ -38,11 +41,16 @@ print-cover-requires : tie.Need-print-cover-requires
 print-cover-requires c κs = search needs
 
 array-share-prefix-out : tie.Need-array-share-prefix-out
-array-share-prefix-out c = search needs
+array-share-prefix-out c =
+    let d = c .before in
+    let fits = printing-fits (coverReply _) _ _ _ (d .print-cover .ensures) (cover-small _) in
+    omega (arith, fits, d .print-cover .kept .1 .0)
 
 slice-aggregate-write-all : tie.Need-slice-aggregate-write-all
 slice-aggregate-write-all c =
-    let d = c .before .before in sym (length-take-le (d .print-cover .result) (d .print-cover .last .1 .0) (omega (arith, d .print-cover .ensures .0, d .print-cover .kept .1 .0)))
+    let d = c .before .before in
+    let fits = printing-fits (coverReply _) _ _ _ (d .print-cover .ensures) (cover-small _) in
+    sym (length-take-le (d .print-cover .result) (d .print-cover .last .1 .0) (omega (arith, fits, d .print-cover .kept .1 .0)))
 
 write-all-requires : tie.Need-write-all-requires
 write-all-requires c κs = search needs

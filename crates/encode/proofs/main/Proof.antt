@@ -1,5 +1,8 @@
 -- `encode::main` prints no more than it was given to print.
 use lib.Seq.{length-take-le}
+use Rattle.rules.specs.Answers.{reportReply}
+use Rattle.replies.proofs.Small.{report-small}
+use Rattle.prints.proofs.Printing.{printing-fits}
 use Prim.Native.Nat.{ℕ, zero, suc, _≤_, _<_, _-_, _+_, _*_, _^_}
 use mathlib.Core.Path.{_≡_, refl, sym, ap, _∙_}
 use mathlib.Core.Logic.{⊎-elim}
@@ -38,11 +41,16 @@ print-report-requires : tie.Need-print-report-requires
 print-report-requires c κs = search needs
 
 array-share-prefix-out : tie.Need-array-share-prefix-out
-array-share-prefix-out c = search needs
+array-share-prefix-out c =
+    let d = c .before in
+    let fits = printing-fits (reportReply _) _ _ _ (d .print-report .ensures) (report-small _) in
+    omega (arith, fits, d .print-report .kept .1 .0)
 
 slice-aggregate-write-all : tie.Need-slice-aggregate-write-all
 slice-aggregate-write-all c =
-    let d = c .before .before in sym (length-take-le (d .print-report .result) (d .print-report .last .1 .0) (omega (arith, d .print-report .ensures .0, d .print-report .kept .1 .0)))
+    let d = c .before .before in
+    let fits = printing-fits (reportReply _) _ _ _ (d .print-report .ensures) (report-small _) in
+    sym (length-take-le (d .print-report .result) (d .print-report .last .1 .0) (omega (arith, fits, d .print-report .kept .1 .0)))
 
 write-all-requires : tie.Need-write-all-requires
 write-all-requires c κs = search needs

@@ -1,5 +1,5 @@
 -- `prints::print_report` meets its contract.
-use Rattle.prints.proofs.Printing.{it-holds, it-tells}
+use Rattle.prints.proofs.Printing.{it-holds, it-tells, nothing-printed}
 use Rattle.rules.specs.Answers.{reportReply}
 use Rattle.replies.proofs.Small.{report-small}
 use Prim.Native.Nat.{ℕ, zero, suc, _≤_, _<_, _-_, _+_, _*_, _^_}
@@ -21,7 +21,7 @@ use Rattle.prints.proofs.tell.Reads as tell-reads
 use Rattle.replies.proofs.say_report.Reads as say-report-reads
 
 returns : tie.Need-returns
-returns c = (omega arith, λ h. absurd (omega (arith, c .if1 .taken)))
+returns c = nothing-printed (reportReply (c .before .before .before .args .listing .now)) _ (c .if1 .taken)
 
 say-report-requires : tie.Need-say-report-requires
 say-report-requires c κs = search needs
@@ -33,7 +33,11 @@ same-length : tie.Need-same-length
 same-length c = search needs
 
 returns-2 : tie.Need-returns-2
-returns-2 c = let a = c .before .before in let d = a .before .before .before .before in let s = d .before .before .before .before .before in (omega (arith, a .tell .ensures .0, d .say-report .kept .1 .0), λ h. a .tell .ensures .1 ∙ it-tells (reportReply (s .args .listing .now)) _ _ _ (d .say-report .ensures) (report-small (s .args .listing .now)) h)
+returns-2 c =
+    let a = c .before .before in
+    let d = a .before .before .before .before in
+    let s = d .before .before .before .before .before in
+    it-tells (reportReply (s .args .listing .now)) _ _ _ (d .say-report .ensures) (report-small (s .args .listing .now)) (d .before .before .if1 .left) _ (a .tell .ensures)
 
 pub print-report-spec : {M : Type 1} → statement M
 print-report-spec =
