@@ -1,32 +1,32 @@
-/* The library's own trial record behind adapter.h: TO BE FILLED IN once its C signature is fixed. Until then the
-   comparison is told that there is none, and says so. */
+/* The library's own trial record behind adapter.h. */
 #include "adapter.h"
+#include "tsurmokan.h"
 
-bool adapter_has_trial(void)
-{
-    return false;
-}
+static struct tsurmokan_trial held;
 
 unsigned adapter_start(uint64_t states, uint64_t bit, const uint64_t *firsts, size_t first_number,
                        const uint64_t *seconds, size_t second_number)
 {
-    (void)states;
-    (void)bit;
-    (void)firsts;
-    (void)first_number;
-    (void)seconds;
-    (void)second_number;
-    return SECOND_BAD_CALL;
+    struct tsurmokan_started started = tsurmokan_start(states, bit, firsts, first_number, seconds, second_number);
+    held = started.trial;
+    return started.refusal;
 }
 
 unsigned adapter_move(uint64_t state)
 {
-    (void)state;
-    return SECOND_BAD_CALL;
+    struct tsurmokan_state moved = { state };
+    return tsurmokan_move(&held, moved);
 }
 
 void adapter_view(uint64_t states, struct adapter_view *view)
 {
-    (void)states;
-    memset(view, 0, sizeof *view);
+    view->states = held.states;
+    view->requirements = held.count;
+    view->bit = held.bit;
+    view->moved = held.moved;
+    view->looks = tsurmokan_looks(held);
+    for (size_t number = 0; number < states; number++) {
+        struct tsurmokan_state state = { number };
+        view->gain[number] = tsurmokan_gain(held, state);
+    }
 }

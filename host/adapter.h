@@ -4,17 +4,15 @@
 
 #include "second.h"
 
-/* What the record held shows. A number that the library does not show is ADAPTER_UNSHOWN, and is not compared. */
-#define ADAPTER_UNSHOWN (~(uint64_t)0)
+/* What the record held shows. */
 struct adapter_view {
     uint64_t states;
     uint64_t requirements;
+    uint64_t bit;
+    uint64_t moved;
     uint64_t looks;
     int64_t gain[SECOND_STATES]; /* of the states below the number of states */
 };
-
-/* Whether the library that is linked has a trial record. */
-bool adapter_has_trial(void);
 
 /* These two answer 0 or the refusal's number; the record held afterwards is the one that was handed back. */
 unsigned adapter_start(uint64_t states, uint64_t bit, const uint64_t *firsts, size_t first_number,

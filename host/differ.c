@@ -3,7 +3,7 @@
 #include "adapter.h"
 #include "generate.h"
 #include "known.h"
-#include "library.h"
+#include "tsurmokan.h"
 #include "second.h"
 
 /* In a run of at least so many listings, each refusal number must be seen at least so often. */
@@ -291,9 +291,9 @@ static bool same_record(unsigned our_answer, unsigned their_answer)
     static struct adapter_view view;
     bool same = our_answer == their_answer;
     adapter_view(trial.states, &view);
-    same = same && (view.states == ADAPTER_UNSHOWN || view.states == trial.states);
-    same = same && (view.requirements == ADAPTER_UNSHOWN || view.requirements == trial.number);
-    same = same && (view.looks == ADAPTER_UNSHOWN || view.looks == second_trial_looks(&trial));
+    same = same && view.states == trial.states && view.requirements == trial.number;
+    same = same && view.bit == trial.bit && view.moved == trial.moved;
+    same = same && view.looks == second_trial_looks(&trial);
     for (unsigned state = 0; state < trial.states; state++) {
         int64_t gain = 0;
         second_trial_gain(&trial, state, &gain);
@@ -449,19 +449,15 @@ int main(int words, char **word)
     }
     uint64_t took = now() - start;
 
-    if (adapter_has_trial()) {
-        for (uint64_t number = 0; number < count / 4; number++) {
-            if (!compare_trial(seed, number)) {
-                printf("FAILED\n");
-                return 1;
-            }
+    for (uint64_t number = 0; number < count / 4; number++) {
+        if (!compare_trial(seed, number)) {
+            printf("FAILED\n");
+            return 1;
         }
-        printf("trial records: %llu starts (%llu refused), %llu moves (%llu refused), all alike\n",
-               (unsigned long long)trial_starts, (unsigned long long)trial_refused_starts,
-               (unsigned long long)trial_moves, (unsigned long long)trial_refused_moves);
-    } else {
-        printf("trial records: not compared, adapter.c is not filled in\n");
     }
+    printf("trial records: %llu starts (%llu refused), %llu moves (%llu refused), all alike\n",
+           (unsigned long long)trial_starts, (unsigned long long)trial_refused_starts,
+           (unsigned long long)trial_moves, (unsigned long long)trial_refused_moves);
 
     uint64_t reports = 0;
     uint64_t covers = 0;
@@ -485,6 +481,7 @@ int main(int words, char **word)
     if (count >= FULL_RUN) {
         bool enough = seen_enough(&report_tally, false);
         enough = seen_enough(&cover_tally, true) && enough;
+        enough = trial_refused_starts >= SEEN_LEAST && trial_refused_moves >= SEEN_LEAST && enough;
         if (!enough)
             return 1;
     }

@@ -1,7 +1,7 @@
 /* Stands in for the library while there is none: the second encoder's answers under the library's names, spoilt in one
    way if STAND_IN_FAULT says so, to show that the comparison finds it. */
 #include "adapter.h"
-#include "library.h"
+#include "tsurmokan.h"
 
 #ifndef STAND_IN_FAULT
 #define STAND_IN_FAULT 0
@@ -64,11 +64,6 @@ int64_t tsurmokan_cover(const uint8_t *listing, size_t listing_length, uint8_t *
 
 static struct second_trial held;
 
-bool adapter_has_trial(void)
-{
-    return true;
-}
-
 unsigned adapter_start(uint64_t states, uint64_t bit, const uint64_t *firsts, size_t first_number,
                        const uint64_t *seconds, size_t second_number)
 {
@@ -93,6 +88,8 @@ void adapter_view(uint64_t states, struct adapter_view *view)
 {
     view->states = held.states;
     view->requirements = held.number;
+    view->bit = held.bit;
+    view->moved = held.moved;
     view->looks = second_trial_looks(&held);
     for (uint64_t state = 0; state < states; state++) {
         view->gain[state] = 0;

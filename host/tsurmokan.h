@@ -1,10 +1,12 @@
-/* Tsurmokan for C: link the archive that `rt staticlib tsurmokan` writes (x86-64). Both functions are proved: whatever the bytes and the
- * lengths, they return, touch nothing but the output buffer, and give the one answer that the definitions in crates/rules/specs give. */
+/* Tsurmokan for C: link the archive that `rt staticlib tsurmokan` writes (x86-64). Every function is proved: whatever it is given, it
+ * returns, touches nothing but what it is lent to write, and gives the one answer that the definitions in crates/rules/specs give. */
 #ifndef TSURMOKAN_H
 #define TSURMOKAN_H
 
 #include <stddef.h>
 #include <stdint.h>
+
+/* ---- a listing's report and cover ---- */
 
 /* No answer is as long as this: a buffer of this many bytes always has room. */
 #define TSURMOKAN_ROOM 100000
@@ -19,5 +21,53 @@ extern int64_t tsurmokan_report(const uint8_t *listing, size_t listing_length, u
 
 /* The cover of a listing in those codes, in the Berkeley PLA form. As above; refused 9 where a pair or group requirement is unmet. */
 extern int64_t tsurmokan_cover(const uint8_t *listing, size_t listing_length, uint8_t *out, size_t out_length);
+
+/* ---- single moves on one bit ---- */
+
+/* No record lists more requirements. */
+#define TSURMOKAN_TRIAL_MOST 256
+
+/* A state's number, from 0: a struct, so that no other number is passed for it. */
+struct tsurmokan_state {
+    size_t number;
+};
+
+/* A trial record. The caller holds it, copies it as it likes, and may read the first five fields; it writes none of them.
+ * A mask has state j as its bit j, counted from the least. */
+struct tsurmokan_trial {
+    size_t states;   /* n; 0 in the empty record */
+    size_t count;    /* the requirements that it lists */
+    uint64_t bit;    /* the value of each state now, as a mask */
+    uint64_t moved;  /* the states that have moved, as a mask */
+    uint64_t looks;  /* the looks so far */
+    uint64_t blocks[2 * TSURMOKAN_TRIAL_MOST]; /* from here on the library's own */
+    uint32_t cards[TSURMOKAN_TRIAL_MOST];
+    uint32_t table[64];
+};
+
+/* What a start answers. */
+struct tsurmokan_started {
+    uint32_t refusal; /* 0, or 11 */
+    struct tsurmokan_trial trial;
+};
+
+/* A record of `states` states at a bit, with requirement r asking that firsts[r] has one value and seconds[r] the other, all of them live.
+ * Refused 11, with the empty record, where states is not 1 to 32, there are more than 256 requirements, the two lists are not of one
+ * length, the bit or a block has a state that is not below `states`, or two blocks of one requirement overlap. No pointer is null, though
+ * a list may have length 0. */
+extern struct tsurmokan_started tsurmokan_start(size_t states, uint64_t bit, const uint64_t *firsts, size_t firsts_length,
+                                                const uint64_t *seconds, size_t seconds_length);
+
+/* Flips one state of the record that is held. Answers 0; or 11 where the number is no state's or the state has moved already, and
+ * then the record is as it was. Its cost is that of the requirements that have the
+ * state, beyond one test of each other one. */
+extern uint32_t tsurmokan_move(struct tsurmokan_trial *trial, struct tsurmokan_state state);
+
+/* How many more requirements would be met after a flip of this state, moved or not; it may be negative. 0 for a number that is no
+ * state's. */
+extern int64_t tsurmokan_gain(struct tsurmokan_trial trial, struct tsurmokan_state state);
+
+/* The looks so far: how many times a move found a requirement of the moved state near, before or after. */
+extern uint64_t tsurmokan_looks(struct tsurmokan_trial trial);
 
 #endif

@@ -19,7 +19,8 @@ pub const MOST_BYTES: usize = 65536;
 
 pub const MOST_TRIAL: usize = 256;
 
-// A state's number, from 0. Moves and gains take it.
+// A state's number, from 0. Moves and gains take it, a C host's too.
+#[repr(C)]
 pub struct StateNumber(pub usize);
 
 // A requirement's number, from 0. Judgements of meeting and `UN` lines take it.

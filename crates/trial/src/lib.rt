@@ -1,4 +1,4 @@
-// The trial record, for single moves: by value, and at the end one thin function over a record that the caller goes on holding.
+// The trial record, for single moves, by value.
 ghost use mathlib.Core.Path.{_≡_};
 ghost use mathlib.Core.Bool.{_&&_};
 ghost use Prim.Native.Nat.{_+_, _<_, _≤_};
@@ -300,13 +300,4 @@ pub fn number_of(v: rules::Verdict) -> u32
         rules::Verdict::Accepted => 0,
         rules::Verdict::Refused(r, _) => r.number_of(),
     }
-}
-
-// The move of s on a record that the caller goes on holding: 0, or 11 where the move is refused, and the record then stays as it is.
-pub fn move_in_place(t: &mut Trial, s: rules::StateNumber) -> u32
-    ensures { λ r. ⌜ (now (t .exit) ≡ moveOf (now (t .entry)) s .trial) × (r ≡ verdictNumbers (moveOf (now (t .entry)) s .verdict) .refusal) ⌝ }
-{
-    let a = (*t).make_move(s);
-    *t = a.trial;
-    number_of(a.verdict)
 }

@@ -1,4 +1,6 @@
 // The library for a C host: a listing's bytes and an output buffer in, and the length of the text, or minus (number × 100,000 + line), out.
+mod records;
+
 ghost use mathlib.Core.Path.{_≡_};
 ghost use Rattle.rules.specs.Answers.{reportReply, coverReply, answered};
 ghost use Rattle.tsurmokan.specs.Signed.{signed, Within};

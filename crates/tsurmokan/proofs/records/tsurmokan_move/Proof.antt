@@ -1,4 +1,4 @@
--- `trial::move_in_place` meets its contract: a walk of its MIR, by hand. The borrow is opened, the record is copied out and passed by value
+-- `tsurmokan_move` meets its contract: a walk of its MIR, by hand. The borrow is opened, the record is copied out and passed by value
 -- to `make_move`, the answer's record is stored back whole, and the borrow is closed at it. `number_of` gives the result.
 -- All that the proof knows of the two is that they meet their contracts.
 -- Assumes nothing.
@@ -48,30 +48,30 @@ use Rattle.rules.proofs.StateNumber as S
 use Rattle.rules.proofs.StateNumber.Laws as S′
 use Rattle.rules.proofs.Verdict as E
 use Rattle.rules.proofs.Verdict.Laws as E′
 use Rattle.trial.specs.Record.{moveOf}
 use Rattle.trial.specs.declared.Trial.{Trial}
 use Rattle.trial.specs.declared.Answer.{Answer}
 use Rattle.trial.proofs.Trial as T
 use Rattle.trial.proofs.Trial.Laws as T′
 use Rattle.trial.proofs.Answer as N
 use Rattle.trial.proofs.Answer.Laws as N′
 use Rattle.trial.proofs.Trial.make_move as make-move
 use Rattle.trial.proofs.Trial.make_move.Symbol as make-move-def
 use Rattle.trial.proofs.Trial.make_move.Symbol.{name as #make-move}
 use Rattle.trial.proofs.Trial.make_move.Met as make-move-thm
 use Rattle.trial.proofs.number_of as number-of
 use Rattle.trial.proofs.number_of.Symbol as number-of-def
 use Rattle.trial.proofs.number_of.Symbol.{name as #number-of}
 use Rattle.trial.proofs.number_of.Met as number-of-thm
-use Rattle.trial.proofs.move_in_place.Key.{name as #move-in-place}
-use Rattle.trial.proofs.move_in_place as move-in-place
-use Rattle.trial.proofs.move_in_place.Statement as stated
-use Rattle.trial.proofs.move_in_place.Code as code
+use Rattle.tsurmokan.proofs.records.tsurmokan_move.Key.{name as #move-held}
+use Rattle.tsurmokan.proofs.records.tsurmokan_move as move-held
+use Rattle.tsurmokan.proofs.records.tsurmokan_move.Statement as stated
+use Rattle.tsurmokan.proofs.records.tsurmokan_move.Code as code
 
 abbrev Arg : Type 0
 Arg = RefT Trial × (StateNumber × Unit {0})
 
-abbrev stayed : Stays (move-in-place.ended .signature .params) (move-in-place.ended .kept)
+abbrev stayed : Stays (move-held.ended .signature .params) (move-held.ended .kept)
 stayed = (stay-ref (0 ∷ []) tt (plain (λ _. T.the-row)), (stay-none (λ _. S.the-row) yes, tt))
 
 -- 0, or the number of the refusal
@@ -113,7 +113,7 @@ module _ {M : Type 1} (𝓤 : URA M) (H : Heap 𝓤) (A : Atoms 𝓤) (W : Given
   at = (vptr b o ∷ [], (machS s ∷ [], tt))
 
   abbrev Post : Val → SProp 𝓤
-  Post = walkOf 𝓤 H A move-in-place.ended stayed (move-in-place.clauses 𝓤 H A at-mem run) .post (((κ, tt), (q, tt), tt, x, at), tt)
+  Post = walkOf 𝓤 H A move-held.ended stayed (move-held.clauses 𝓤 H A at-mem run) .post (((κ, tt), (q, tt), tt, x, at), tt)
 
   -- what the callees' triples bind outside
   abbrev to-moves : Moves 𝓤 H A at-mem run .Ghost
@@ -136,7 +136,7 @@ module _ {M : Type 1} (𝓤 : URA M) (H : Heap 𝓤) (A : Atoms 𝓤) (W : Given
       (sep 𝓤 (A .bor κ (Body (mem T.the-row) b o γ)) (sep 𝓤 (A .lft κ q) (sem 𝓤 H A (u32 .own k (w ∷ [])))))) (Post w)
   exits r k w e f =
       qed W (‵ (fobs γ (T.the-row .coded .code (r .trial))) ∷ ‵ (fbor κ (Body (mem T.the-row) b o γ)) ∷ ‵ (flft κ q) ∷ ‵ (u32 .own k (w ∷ [])) ∷ []) ∵
-      suffices ! _ (ends-at 𝓤 H A move-in-place.ended stayed (move-in-place.clauses 𝓤 H A at-mem run) W (((κ, tt), (q, tt), tt, x, at), tt) w k
+      suffices ! _ (ends-at 𝓤 H A move-held.ended stayed (move-held.clauses 𝓤 H A at-mem run) W (((κ, tt), (q, tt), tt, x, at), tt) w k
       (r .trial, (tt, tt)) (tt, (tt, tt))) $
       says ! (ap (λ (a : Answer). a .trial) e, f ∙ ap (λ (a : Answer). numberOf (a .verdict)) e) $ nothing ! $ move ! (3 ∷ 0 ∷ []) $ join ! $
       frame ! $ feqI ! (List Val) (vptr b o ∷ []) (vptr b o ∷ []) refl $ fjoin3 ! $ nothing ! $
@@ -144,7 +144,7 @@ module _ {M : Type 1} (𝓤 : URA M) (H : Heap 𝓤) (A : Atoms 𝓤) (W : Given
 
   module _ (C : Calls 𝓤 H) (Λ : Loops 𝓤 H) (fm : FmC 𝓤 H (W .laws) C) (known-moves : Triple 𝓤 (C #make-move) (Moves 𝓤 H A at-mem run))
       (known-numbers : Triple 𝓤 (C #number-of) (Numbers 𝓤 H A at-mem run)) where
-    walk : ent 𝓤 (onEntry 𝓤 H A move-in-place.signature (κ, tt) (q, tt) x at) (WpFn 𝓤 H C Λ code.function (vptr b o ∷ machS s ∷ []) Post)
+    walk : ent 𝓤 (onEntry 𝓤 H A move-held.signature (κ, tt) (q, tt) x at) (WpFn 𝓤 H C Λ code.function (vptr b o ∷ machS s ∷ []) Post)
     walk =
         qed W ((‵ (flft κ q) ⊛ ‵ ftrue) ∷ ‵ (owns (MutRef (named 0) κ T.the-row ∷ S.the-row ∷ []) x at) ∷ []) ∵ split ! $ move ! (2 ∷ []) $ fsplit ! $
         fsplit3 ! $ drop ! $ move ! (0 ∷ 1 ∷ 3 ∷ []) $
@@ -192,34 +192,34 @@ module _ {M : Type 1} (𝓤 : URA M) (H : Heap 𝓤) (A : Atoms 𝓤) (W : Given
         keep ! (1 ∷ 2 ∷ 3 ∷ 0 ∷ []) $ by ! (exits r k w₂ e f))))))))))))))))
 
 module _ {M : Type 1} (𝓤 : URA M) (H : Heap 𝓤) (A : Atoms 𝓤) (W : Given 𝓤 H A) (at-mem : Memory → SProp 𝓤) (run : Routine → Fun 𝓤) where
-  move-in-place-walks : (C : Calls 𝓤 H) (Λ : Loops 𝓤 H) → FmC 𝓤 H (W .laws) C
+  move-held-walks : (C : Calls 𝓤 H) (Λ : Loops 𝓤 H) → FmC 𝓤 H (W .laws) C
       → Triple 𝓤 (C #make-move) (Moves 𝓤 H A at-mem run) → Triple 𝓤 (C #number-of) (Numbers 𝓤 H A at-mem run)
-      → Walks 𝓤 H A move-in-place.ended stayed (WpFn 𝓤 H C Λ code.function) (move-in-place.clauses 𝓤 H A at-mem run)
-  move-in-place-walks C Λ fm known-moves known-numbers =
-      walked 𝓤 H A move-in-place.ended stayed (move-in-place.clauses 𝓤 H A at-mem run) (WpFn 𝓤 H C Λ code.function)
+      → Walks 𝓤 H A move-held.ended stayed (WpFn 𝓤 H C Λ code.function) (move-held.clauses 𝓤 H A at-mem run)
+  move-held-walks C Λ fm known-moves known-numbers =
+      walked 𝓤 H A move-held.ended stayed (move-held.clauses 𝓤 H A at-mem run) (WpFn 𝓤 H C Λ code.function)
       (λ κs. (ptr-vals, (LL.vals S.the-type S′.the-laws, tt))) (λ κs. (mut-tells (named 0) (κs .0) T.the-row, (LL.tells S.the-type S′.the-laws, tt)))
       (λ κs qs bounds a g are. via 𝓤 _ (fst∗ 𝓤 _ (emp 𝓤))
       (walk 𝓤 H A W at-mem run (κs .0) (qs .0) (a .0 .ptr .0) (a .0 .ptr .1) (a .0 .name) (a .0 .now) (a .1 .0) (are .1 .0) C Λ fm
       known-moves known-numbers))
 
-  all-go : AllGo 𝓤 H A W 1 (move-in-place.signature .params) (move-in-place.ended .kept) stayed
+  all-go : AllGo 𝓤 H A W 1 (move-held.signature .params) (move-held.ended .kept) stayed
   all-go = (goes-ref 𝓤 H A W 1 0 tt (plain (λ _. T.the-row)), (goes-none 𝓤 H A W 1 (λ _. S.the-row) yes (λ κs x f. refl), tt))
 
-move-in-place-meets : {M : Type 1} (𝓤 : URA M) (H : Heap 𝓤) (A : Atoms 𝓤) → (W : Given 𝓤 H A) (at-mem : Memory → SProp 𝓤) (run : Routine → Fun 𝓤)
+move-held-meets : {M : Type 1} (𝓤 : URA M) (H : Heap 𝓤) (A : Atoms 𝓤) → (W : Given 𝓤 H A) (at-mem : Memory → SProp 𝓤) (run : Routine → Fun 𝓤)
     (𝓣 : Tables 𝓤 H)
     → Triple 𝓤 (𝓣 .C #make-move) (Moves 𝓤 H A at-mem run) → Triple 𝓤 (𝓣 .C #number-of) (Numbers 𝓤 H A at-mem run)
-    → Meets 𝓤 H A move-in-place.signature (WpFn 𝓤 H (𝓣 .C) (𝓣 .Λ) code.function) (move-in-place.spec 𝓤 H A at-mem run)
-move-in-place-meets 𝓤 H A W at-mem run 𝓣 known-moves known-numbers =
-    walk-meets 𝓤 H A move-in-place.ended stayed W (all-go 𝓤 H A W at-mem run) (move-in-place.clauses 𝓤 H A at-mem run) (WpFn 𝓤 H (𝓣 .C) (𝓣 .Λ) code.function)
+    → Meets 𝓤 H A move-held.signature (WpFn 𝓤 H (𝓣 .C) (𝓣 .Λ) code.function) (move-held.spec 𝓤 H A at-mem run)
+move-held-meets 𝓤 H A W at-mem run 𝓣 known-moves known-numbers =
+    walk-meets 𝓤 H A move-held.ended stayed W (all-go 𝓤 H A W at-mem run) (move-held.clauses 𝓤 H A at-mem run) (WpFn 𝓤 H (𝓣 .C) (𝓣 .Λ) code.function)
     (WpFn-mono 𝓤 H (W .laws) 𝓣 code.function)
-    (move-in-place-walks 𝓤 H A W at-mem run (𝓣 .C) (𝓣 .Λ) (fmOf 𝓤 H (W .laws) 𝓣) known-moves known-numbers)
+    (move-held-walks 𝓤 H A W at-mem run (𝓣 .C) (𝓣 .Λ) (fmOf 𝓤 H (W .laws) 𝓣) known-moves known-numbers)
 
-pub move-in-place-spec : {M : Type 1} → stated.statement M
+pub tsurmokan-move-spec : {M : Type 1} → stated.statement M
 unfolding code.routine tablesOf
-move-in-place-spec 𝓤 H 𝓜 𝓖 𝓡 =
-    entered 𝓤 H (tripleOf 𝓤 H (𝓖 .A) move-in-place.signature (move-in-place.spec 𝓤 H (𝓖 .A) (𝓜 .mem) (𝓡 .run)))
-    (tables 𝓤 H 𝓜 𝓡 code.env .C) (tables 𝓤 H 𝓜 𝓡 code.env .Λ) #move-in-place code.function (code.unfolded 𝓤 H 𝓜 𝓡)
-    (move-in-place-meets 𝓤 H (𝓖 .A) (givenOf 𝓤 H 𝓜 𝓖) (𝓜 .mem) (𝓡 .run) (tablesOf 𝓤 H 𝓜 (tables 𝓤 H 𝓜 𝓡 code.env))
+tsurmokan-move-spec 𝓤 H 𝓜 𝓖 𝓡 =
+    entered 𝓤 H (tripleOf 𝓤 H (𝓖 .A) move-held.signature (move-held.spec 𝓤 H (𝓖 .A) (𝓜 .mem) (𝓡 .run)))
+    (tables 𝓤 H 𝓜 𝓡 code.env .C) (tables 𝓤 H 𝓜 𝓡 code.env .Λ) #move-held code.function (code.unfolded 𝓤 H 𝓜 𝓡)
+    (move-held-meets 𝓤 H (𝓖 .A) (givenOf 𝓤 H 𝓜 𝓖) (𝓜 .mem) (𝓡 .run) (tablesOf 𝓤 H 𝓜 (tables 𝓤 H 𝓜 𝓡 code.env))
     (cited 𝓤 H (Moves 𝓤 H (𝓖 .A) (𝓜 .mem) (𝓡 .run)) 𝓜 𝓡 code.env #make-move make-move-def.routine code.calls-trial·Trial·make-move
     (make-move-thm.met 𝓤 H 𝓜 𝓖 𝓡))
     (cited 𝓤 H (Numbers 𝓤 H (𝓖 .A) (𝓜 .mem) (𝓡 .run)) 𝓜 𝓡 code.env #number-of number-of-def.routine code.calls-trial·number-of (number-of-thm.met 𝓤 H 𝓜 𝓖 𝓡)))
