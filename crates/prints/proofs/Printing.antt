@@ -1,13 +1,13 @@
 -- What is printed of what was said is 01's reply, printed, where there is room enough; and it fits.
 use mathlib.Core.Path.{_≡_, refl, sym, ap, ap₂, _∙_, subst}
 use mathlib.Core.Bool.{Bool, true, false, cond}
-use mathlib.Core.List.{List, [], _∷_, _++_}
-use Prim.Native.Nat.{ℕ, _+_, _^_, _≤_, _<_}
+use mathlib.Core.List.{List, _++_}
+use Prim.Native.Nat.{ℕ, _^_, _≤_, _<_}
 use native.Mathlib.Omega.{arith}
 use borrow.Author.Tests.{le-leb, lt-ltb, le-ltb, ltb-false}
-use lib.Dec.{leb, ltb}
+use lib.Dec.{ltb}
 use lib.ListN.{length, drop, length-append}
-use Rattle.rules.specs.Text.{bytes, space, lf, decimal}
+use Rattle.rules.specs.Text.{decimal}
 use Rattle.rules.specs.Refusals.{number}
 use Rattle.rules.specs.Answers.{Reply, says, refuses, printed}
 use Rattle.rules.specs.declared.Refusal.{Refusal}

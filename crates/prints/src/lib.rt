@@ -1,11 +1,20 @@
 // What a program prints for a listing: the text, or `NO number line`.
 ghost use mathlib.Core.Path.{_≡_};
+ghost use Prim.Native.Nat.{_≤_};
 ghost use lib.ListN.{length};
-ghost use Rattle.rules.specs.Answers.{reportReply, coverReply};
+ghost use Rattle.rules.specs.Answers.{refuses, printed};
+ghost use Rattle.pen.specs.Pen.{Wrote};
+ghost use Rattle.replies.specs.Saying.{replyTo};
 ghost use Rattle.prints.specs.Told.{told, printing, Holding};
 
-// So many bytes of room are always enough.
-pub const ROOM: usize = 100000;
+// `NO number line`
+fn put_refusal(out: &mut [u8], refusal: rules::Refusal, line: usize) -> usize
+    ensures { λ r. ⌜ Wrote (now (out .entry)) 0 (printed (refuses refusal line)) r (now (out .exit)) ⌝ }
+{
+    let p = pen::put_bytes(out, 0, b"NO ");
+    let q = pen::put_field(out, p, refusal.number_of() as u64, 32);
+    pen::put_field(out, q, line as u64, 10)
+}
 
 // A refusal is written over the buffer; a text stands there already. The answer is how many bytes are to be printed.
 fn tell(said: replies::Said, out: &mut [u8]) -> usize
@@ -14,28 +23,18 @@ fn tell(said: replies::Said, out: &mut [u8]) -> usize
 {
     match said {
         replies::Said::Text(n) => n,
-        replies::Said::Refused(r, line) => answer::put_refusal(out, 0, r, line),
+        replies::Said::Refused(r, line) => put_refusal(out, r, line),
     }
 }
 
-// The report, printed into the buffer; nothing, if it has less room than is always enough.
-pub fn print_report(listing: &[u8], out: &mut [u8]) -> usize
-    ensures { λ r. ⌜ (r, now (out .exit)) ≡ printing (reportReply (now (listing .entry))) (now (out .entry)) ⌝ }
+// What is wanted, printed into the buffer; nothing, if it has less room than is always enough.
+pub fn print(wanted: replies::Wanted, listing: &[u8], out: &mut [u8]) -> usize
+    ensures { λ r. ⌜ ((r, now (out .exit)) ≡ printing (replyTo wanted (now (listing .entry))) (now (out .entry)))
+        × (r ≤ length (now (out .exit))) ⌝ }
 {
-    if out.len() < ROOM {
+    if out.len() < replies::ROOM {
         return 0;
     }
-    let said = replies::say_report(listing, out);
-    tell(said, out)
-}
-
-// The cover, likewise.
-pub fn print_cover(listing: &[u8], out: &mut [u8]) -> usize
-    ensures { λ r. ⌜ (r, now (out .exit)) ≡ printing (coverReply (now (listing .entry))) (now (out .entry)) ⌝ }
-{
-    if out.len() < ROOM {
-        return 0;
-    }
-    let said = replies::say_cover(listing, out);
+    let said = replies::say(wanted, listing, out);
     tell(said, out)
 }

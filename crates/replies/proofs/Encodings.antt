@@ -2,17 +2,16 @@
 use mathlib.Core.Path.{_≡_, refl, sym, ap, _∙_, subst}
 use mathlib.Core.Bool.{Bool, true, false, cond, not, _&&_}
 use mathlib.Core.Logic.{_↔_}
-use mathlib.Core.List.{List, [], _∷_, _++_, map}
-use Prim.Native.Nat.{ℕ, _*_, _-_, _^_, _≤_, _<_}
+use mathlib.Core.List.{map}
+use Prim.Native.Nat.{ℕ, _-_, _≤_, _<_}
 use native.Mathlib.Omega.{arith}
 use lib.Dec.{eqb}
-use lib.ListN.{length, getD, take, replicate, length-map, List·getD-append}
+use lib.ListN.{length, getD, replicate, length-map, List·getD-append}
 use lib.Seq.{take-append-seam}
 use Rattle.rules.specs.Limits.{most-bits}
 use Rattle.rules.specs.Listing.{noRequirement}
 use Rattle.rules.specs.Requirements.{metByCode, requirements}
 use Rattle.rules.specs.Code.{Code, Coding, coded, uncoded, build, coding, wideEnough, unmet}
-use Rattle.rules.specs.declared.Requirement.{Requirement}
 use Rattle.rules.specs.declared.Listing.{Listing}
 use Rattle.rules.specs.declared.Encoding.{Encoding}
 use Rattle.rules.specs.declared.Verdict.{Verdict}
@@ -20,9 +19,8 @@ use Rattle.rules.specs.declared.Refusal.{Refusal}
 use Rattle.rules.specs.declared.Refusal.the-variants.{TooWide}
 use Rattle.rules.proofs.Sound.{Sound}
 use Rattle.rules.proofs.Most.{most-requirements}
-use Rattle.rules.proofs.Built.{Built, built}
-use Rattle.passes.proofs.Ready.{Ready, sound-ready}
-use Rattle.cards.specs.Fair.{fair}
+use Rattle.rules.proofs.Built.{built}
+use Rattle.passes.proofs.Ready.{sound-ready}
 use Rattle.cards.proofs.FairListings.{sound-fair}
 use Rattle.codes.specs.Encode.{most-asked, no-bit, padded, metFirst, encodedAs, encoded}
 use Rattle.codes.proofs.Lists.{map-at, padded-length}

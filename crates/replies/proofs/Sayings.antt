@@ -1,22 +1,19 @@
 -- Each thing said is 01's reply: the reader's refusal, the encoder's, the text where it fits, and 10 where it does not.
 use mathlib.Core.Path.{_≡_, refl, sym, ap, ap₂, _∙_, subst}
 use mathlib.Core.Bool.{Bool, true, false, cond}
-use mathlib.Core.List.{List, _++_}
+use mathlib.Core.List.{List}
 use mathlib.Core.Logic.{_↔_}
-use Prim.Native.Nat.{ℕ, _+_, _-_, _≤_, _<_}
+use Prim.Native.Nat.{ℕ, _-_, _≤_, _<_}
 use native.Mathlib.Omega.{arith}
-use borrow.Author.Tests.{le-leb, lt-leb}
+use borrow.Author.Tests.{leb-true}
 use lib.Dec.{leb}
-use lib.ListN.{length, getD, take, drop, length-append, length-take, List·getD-append}
+use lib.ListN.{length, getD, take, length-append, length-take, List·getD-append}
 use lib.Seq.{length-take-le}
-use Rattle.rules.specs.Limits.{most-rows, most-bits}
-use Rattle.rules.specs.Listing.{reading, noRequirement, rowsOf, dichotomiesOf}
+use Rattle.rules.specs.Listing.{reading, noRequirement, dichotomiesOf}
 use Rattle.rules.specs.Requirements.{requirements, pairsAndGroups, metByCode}
-use Rattle.rules.specs.Code.{Code, Coding, coded, uncoded, coding, unmetFrom}
-use Rattle.rules.specs.Report.{report}
+use Rattle.rules.specs.Code.{uncoded, coding, unmetFrom}
 use Rattle.rules.specs.Cover.{cover}
 use Rattle.rules.specs.Answers.{Reply, says, refuses, onReading, reportOf, coverOf, reportReply}
-use Rattle.rules.specs.declared.Requirement.{Requirement}
 use Rattle.rules.specs.declared.Listing.{Listing}
 use Rattle.rules.specs.declared.Reading.{Reading}
 use Rattle.rules.specs.declared.Encoding.{Encoding}
@@ -27,59 +24,70 @@ use Rattle.rules.proofs.Sound.{Sound, accepted-sound, rows-length}
 use Rattle.codes.specs.Encode.{encoded}
 use Rattle.pen.specs.Pen.{Wrote}
 use Rattle.pen.proofs.Laws.{wrote-all, wrote-length}
-use Rattle.report.specs.Report.{unmetIn, encodedReport, Holds}
+use Rattle.report.specs.Report.{unmetIn, encodedReport}
 use Rattle.report.proofs.Same.{same-report, same-unmet}
 use Rattle.report.proofs.Length.{report-length}
 use Rattle.faces.specs.Faces.{Bounded}
 use Rattle.faces.proofs.Length.{cover-length}
-use Rattle.replies.specs.Saying.{saying, Whole}
+use Rattle.replies.specs.Saying.{saying, Whole, textOf, withheld, replyOf, replyTo}
+use Rattle.replies.specs.declared.Wanted.{Wanted}
 use Rattle.replies.specs.declared.Said.{Said}
 use Rattle.replies.proofs.Encodings.{no-code}
 
 -- ---- the reader's refusal, or the listing's own reply
 
-module _ (s out : List ℕ) (rd : Reading) (e : rd ≡ reading s) (f : Listing → Reply) where
+pub read-first : (w : Wanted) (s : List ℕ) → replyTo w s ≡ onReading (reading s) (replyOf w)
+unfolding replyTo replyOf
+read-first Wanted.Report s = refl
+read-first Wanted.Cover s = refl
+
+module _ (w : Wanted) (s out : List ℕ) (rd : Reading) (e : rd ≡ reading s) where
   on : Verdict → Reply
-  on v = elim v [ Verdict.Accepted ↦ f (rd .listing) | Verdict.Refused n k ↦ refuses n k ]
+  on v = elim v [ Verdict.Accepted ↦ replyOf w (rd .listing) | Verdict.Refused n k ↦ refuses n k ]
 
-  pub not-read : (r : Refusal) (k : ℕ) → rd .verdict ≡ Verdict.Refused r k → (Said.Refused r k, out) ≡ saying (onReading (reading s) f) out
-  unfolding saying on
-  not-read r k v = ap (λ (x : Reply). saying x out) (sym (ap (λ (x : Reading). onReading x f) (sym e) ∙ ap on v))
-
-  pub was-read : rd .verdict ≡ Verdict.Accepted → saying (f (rd .listing)) out ≡ saying (onReading (reading s) f) out
+  as-read : (v : Verdict) → rd .verdict ≡ v → saying (on v) out ≡ saying (replyTo w s) out
   unfolding on
-  was-read v = ap (λ (x : Reply). saying x out) (sym (ap (λ (x : Reading). onReading x f) (sym e) ∙ ap on v))
+  as-read v h = ap (λ (x : Reply). saying x out) (sym (read-first w s ∙ ap (λ (x : Reading). onReading x (replyOf w)) (sym e) ∙ ap on h))
 
-  pub read-sound : rd .verdict ≡ Verdict.Accepted → Sound (rd .listing)
-  read-sound v = subst (λ (x : Reading). Sound (x .listing)) (sym e) (accepted-sound s (ap (λ (x : Reading). x .verdict) (sym e) ∙ v))
+  pub not-read : (r : Refusal) (k : ℕ) → rd .verdict ≡ Verdict.Refused r k → (Said.Refused r k, out) ≡ saying (replyTo w s) out
+  unfolding saying on
+  not-read r k v = as-read (Verdict.Refused r k) v
+
+  pub was-read : rd .verdict ≡ Verdict.Accepted → saying (replyOf w (rd .listing)) out ≡ saying (replyTo w s) out
+  unfolding on
+  was-read v = as-read Verdict.Accepted v
+
+pub read-sound : (s : List ℕ) (rd : Reading) → rd ≡ reading s → rd .verdict ≡ Verdict.Accepted → Sound (rd .listing)
+read-sound s rd e v = subst (λ (x : Reading). Sound (x .listing)) (sym e) (accepted-sound s (ap (λ (x : Reading). x .verdict) (sym e) ∙ v))
 
 -- ---- the encoder's refusal
 
-module _ (t : Listing) (s : Sound t) (out : List ℕ) (e : Encoding) (h : e ≡ encoded t) (r : Refusal) (k : ℕ) (v : e .verdict ≡ Verdict.Refused r k) where
-  pub no-report : (Said.Refused r k, out) ≡ saying (reportOf t (coding t)) out
-  unfolding saying reportReply
-  no-report =
-      ap (λ (x : ℕ). (Said.Refused r x, out)) (no-code t s e h r k v .1)
-      ∙ sym (ap (λ (x : Coding). saying (reportOf t x) out) (no-code t s e h r k v .0))
+refused-alike : (w : Wanted) (t : Listing) (r : Refusal) → coding t ≡ uncoded r → replyOf w t ≡ refuses r 0
+unfolding replyOf coverOf reportReply
+refused-alike Wanted.Report t r e = ap (reportOf t) e
+refused-alike Wanted.Cover t r e = ap (coverOf t) e
 
-  pub no-cover : (Said.Refused r k, out) ≡ saying (coverOf t (coding t)) out
-  unfolding saying coverOf
-  no-cover =
-      ap (λ (x : ℕ). (Said.Refused r x, out)) (no-code t s e h r k v .1)
-      ∙ sym (ap (λ (x : Coding). saying (coverOf t x) out) (no-code t s e h r k v .0))
+pub no-reply : (w : Wanted) (t : Listing) (s : Sound t) (out : List ℕ) (e : Encoding) → e ≡ encoded t → (r : Refusal) (k : ℕ) → e .verdict ≡ Verdict.Refused r k
+    → (Said.Refused r k, out) ≡ saying (replyOf w t) out
+unfolding saying
+no-reply w t s out e h r k v =
+    ap (λ (x : ℕ). (Said.Refused r x, out)) (no-code t s e h r k v .1)
+    ∙ sym (ap (λ (x : Reply). saying x out) (refused-alike w t r (no-code t s e h r k v .0)))
 
--- ---- a text, of which a first writing told the length n
+-- ---- a text
 
-module _ {d text out a : List ℕ} {n : ℕ} (w : Wrote d 0 text n a) (few : length text < 100000) where
-  pub no-space : length out < n → (Said.Refused NoRoom 0, out) ≡ saying (says text) out
-  unfolding saying
-  no-space h = let l : length out < length text = omega (arith, wrote-length w (omega arith)) in rw (lt-leb (length text) (length out) l) refl
+pub told-length : {d text a : List ℕ} {n : ℕ} → Wrote d 0 text n a → length text < 100000 → n ≡ length text
+told-length w few = wrote-length w (omega arith)
 
-  pub written : {m : ℕ} {b : List ℕ} → n ≤ length out → Wrote out 0 text m b → (Said.Text n, b) ≡ saying (says text) out
-  unfolding saying
-  written h x =
-      let l : length text ≤ length out = omega (arith, wrote-length w (omega arith)) in
-      rw (le-leb (length text) (length out) l) (ap₂ (λ (k : ℕ) (y : List ℕ). (Said.Text k, y)) (wrote-length w (omega arith)) (wrote-all x l))
+pub no-space : (text out : List ℕ) (b : Bool) → b ≡ leb (length text) (length out) → b ≡ false → (Said.Refused NoRoom 0, out) ≡ saying (says text) out
+unfolding saying
+no-space text out b e h = rw (sym e ∙ h) refl
+
+pub written : (text out after : List ℕ) (n : ℕ) (b : Bool) → b ≡ leb (length text) (length out) → b ≡ true → length text < 100000 → Wrote out 0 text n after
+    → (Said.Text n, after) ≡ saying (says text) out
+unfolding saying
+written text out after n b e h few w =
+    rw (sym e ∙ h) (ap₂ (λ (k : ℕ) (y : List ℕ). (Said.Text k, y)) (told-length w few) (wrote-all w (leb-true (length text) (length out) (sym e ∙ h))))
 
 -- ---- of a code
 
@@ -94,9 +102,10 @@ module _ (t : Listing) (e : Encoding) (w : Whole t e) where
   cover-few =
       omega (arith, cover-length t (take (e .width) (e .bits)) bounded (omega (arith, rows-length t (w .sound), w .sound .few-rows)) (omega (arith, length-take (e .width) (e .bits), w .narrow)))
 
-  pub report-is : says (encodedReport (t .head .states) e) ≡ reportOf t (coding t)
-  unfolding reportReply
-  report-is = ap says (same-report t (w .code) e (w .holds)) ∙ sym (ap (reportOf t) (w .is))
+  pub few : (k : Wanted) → length (textOf k t e) < 100000
+  unfolding textOf
+  few Wanted.Report = report-few
+  few Wanted.Cover = cover-few
 
   abbrev unmetFirst : ℕ
   unmetFirst = length (unmetFrom 0 (t .head .states) (take (e .width) (e .bits)) (pairsAndGroups t))
@@ -108,11 +117,17 @@ module _ (t : Listing) (e : Encoding) (w : Whole t e) where
       ∙ ap (λ (x : List ℕ). cond (leb 1 (length (unmetFrom 0 (t .head .states) x (pairsAndGroups t)))) (refuses Unmet 0) (says (cover t x))) (sym (w .holds .bits))
       ∙ ap (λ (x : Bool). cond x (refuses Unmet 0) (says (cover t (take (e .width) (e .bits))))) q
 
-  pub ambiguous : (b : Bool) → b ≡ leb 1 unmetFirst → b ≡ true → refuses Unmet 0 ≡ coverOf t (coding t)
-  ambiguous b q h = sym (cover-as true (sym q ∙ h))
+  -- 9, or the text
+  replied-as : (k : Wanted) (b : Bool) → withheld k t e ≡ b → replyOf k t ≡ cond b (refuses Unmet 0) (says (textOf k t e))
+  unfolding replyOf withheld textOf reportReply
+  replied-as Wanted.Report b q = ap (reportOf t) (w .is) ∙ sym (ap says (same-report t (w .code) e (w .holds))) ∙ ap (λ (x : Bool). cond x (refuses Unmet 0) (says (encodedReport (t .head .states) e))) q
+  replied-as Wanted.Cover b q = cover-as b q
 
-  pub cover-is : (b : Bool) → b ≡ leb 1 unmetFirst → b ≡ false → says (cover t (take (e .width) (e .bits))) ≡ coverOf t (coding t)
-  cover-is b q h = sym (cover-as false (sym q ∙ h))
+  pub is-withheld : (k : Wanted) (b : Bool) → b ≡ withheld k t e → b ≡ true → refuses Unmet 0 ≡ replyOf k t
+  is-withheld k b q h = sym (replied-as k true (sym q ∙ h))
+
+  pub is-said : (k : Wanted) (b : Bool) → b ≡ withheld k t e → b ≡ false → says (textOf k t e) ≡ replyOf k t
+  is-said k b q h = sym (replied-as k false (sym q ∙ h))
 
   -- the pairs and the groups stand before the dichotomies
   first-asked : length (pairsAndGroups t) ≡ e .asked - t .dichotomies

@@ -1,27 +1,25 @@
 -- Every answer is small: a text has fewer than 100,000 bytes, and a refusal's line is below 100,000. So that many bytes of room are always enough.
-use mathlib.Core.Path.{_≡_, refl, sym, ap, _∙_, subst}
+use mathlib.Core.Path.{_≡_, refl, subst}
 use mathlib.Core.Bool.{Bool, true, false, cond}
 use mathlib.Core.List.{List}
-use Prim.Native.Nat.{ℕ, _≤_, _<_}
+use Prim.Native.Nat.{ℕ, _<_}
 use native.Mathlib.Omega.{arith}
 use lib.Dec.{leb}
-use lib.ListN.{length, take}
+use lib.ListN.{length}
 use Rattle.rules.specs.Listing.{reading}
 use Rattle.rules.specs.Requirements.{pairsAndGroups}
-use Rattle.rules.specs.Code.{Code, Coding, coded, uncoded, coding, unmetFrom}
-use Rattle.rules.specs.Report.{report}
+use Rattle.rules.specs.Code.{Coding, coded, uncoded, coding, unmetFrom}
 use Rattle.rules.specs.Cover.{cover}
 use Rattle.rules.specs.Answers.{Reply, says, refuses, onReading, reportOf, coverOf, reportReply, coverReply}
 use Rattle.rules.specs.declared.Listing.{Listing}
-use Rattle.rules.specs.declared.Reading.{Reading}
 use Rattle.rules.specs.declared.Verdict.{Verdict}
 use Rattle.rules.specs.declared.Refusal.the-variants.{Unmet}
 use Rattle.rules.proofs.Sound.{Sound, accepted-sound}
 use Rattle.rules.proofs.LineNumbers.{refused-line}
 use Rattle.codes.specs.Encode.{encodedAs}
-use Rattle.report.specs.Report.{encodedReport}
 use Rattle.report.proofs.Same.{same-report}
-use Rattle.replies.specs.Saying.{Whole}
+use Rattle.replies.specs.Saying.{replyTo}
+use Rattle.replies.specs.declared.Wanted.{Wanted}
 use Rattle.replies.proofs.Encodings.{whole-as, held}
 use Rattle.replies.proofs.Sayings.{report-few, cover-few}
 
@@ -52,10 +50,7 @@ on-small s f h = go (reading s .verdict) refl
     go Verdict.Accepted e = h (reading s .listing) (accepted-sound s e)
     go (Verdict.Refused r k) e = refused-line s r k e
 
-pub report-small : (s : List ℕ) → Small (reportReply s)
-unfolding reportReply
-report-small s = on-small s (λ t. reportOf t (coding t)) (λ t h. report-as t h (coding t) refl)
-
-pub cover-small : (s : List ℕ) → Small (coverReply s)
-unfolding coverReply
-cover-small s = on-small s (λ t. coverOf t (coding t)) (λ t h. cover-as t h (coding t) refl)
+pub small : (w : Wanted) (s : List ℕ) → Small (replyTo w s)
+unfolding replyTo reportReply coverReply
+small Wanted.Report s = on-small s (λ t. reportOf t (coding t)) (λ t h. report-as t h (coding t) refl)
+small Wanted.Cover s = on-small s (λ t. coverOf t (coding t)) (λ t h. cover-as t h (coding t) refl)

@@ -1,19 +1,50 @@
--- What is said, and what the buffer then holds; and what an encoding is that both answers are written from.
+-- What is wanted, what is said, and what the buffer then holds; and what an encoding is that both texts are written from.
 use mathlib.Core.Path.{_≡_}
-use mathlib.Core.Bool.{cond}
+use mathlib.Core.Bool.{Bool, false, cond}
 use mathlib.Core.List.{List, _++_}
 use Prim.Native.Nat.{ℕ, _^_, _≤_, _<_}
 use lib.Dec.{leb}
-use lib.ListN.{length, drop}
+use lib.ListN.{length, take, drop}
 use Rattle.rules.specs.Limits.{most-bits}
-use Rattle.rules.specs.Code.{Code, coded, coding}
-use Rattle.rules.specs.Answers.{Reply, says, refuses}
+use Rattle.rules.specs.Requirements.{pairsAndGroups}
+use Rattle.rules.specs.Code.{Code, coded, coding, unmetFrom}
+use Rattle.rules.specs.Cover.{cover}
+use Rattle.rules.specs.Answers.{Reply, says, refuses, reportOf, coverOf, reportReply, coverReply}
 use Rattle.rules.specs.declared.Listing.{Listing}
 use Rattle.rules.specs.declared.Encoding.{Encoding}
 use Rattle.rules.specs.declared.Refusal.the-variants.{NoRoom}
 use Rattle.rules.proofs.Sound.{Sound}
-use Rattle.report.specs.Report.{Holds}
+use Rattle.report.specs.Report.{Holds, encodedReport}
+use Rattle.replies.specs.declared.Wanted.{Wanted}
 use Rattle.replies.specs.declared.Said.{Said}
+
+-- ---- 01's reply to what is wanted, of any bytes and of a listing
+
+unfoldable pub replyTo : Wanted → List ℕ → Reply
+unfolding reportReply coverReply
+replyTo Wanted.Report s = reportReply s
+replyTo Wanted.Cover s = coverReply s
+
+unfoldable pub replyOf : Wanted → Listing → Reply
+unfolding coverOf coding
+replyOf Wanted.Report t = reportOf t (coding t)
+replyOf Wanted.Cover t = coverOf t (coding t)
+
+-- ---- the same from an encoding
+
+-- the text
+unfoldable pub textOf : Wanted → Listing → Encoding → List ℕ
+unfolding cover encodedReport
+textOf Wanted.Report t e = encodedReport (t .head .states) e
+textOf Wanted.Cover t e = cover t (take (e .width) (e .bits))
+
+-- whether it is withheld, 9
+unfoldable pub withheld : Wanted → Listing → Encoding → Bool
+unfolding unmetFrom pairsAndGroups
+withheld Wanted.Report t e = false
+withheld Wanted.Cover t e = leb 1 (length (unmetFrom 0 (t .head .states) (take (e .width) (e .bits)) (pairsAndGroups t)))
+
+-- ---- what is said, and the buffer
 
 -- The text where it fits, with the bytes behind it as they came; where not, 10, and where it is refused, that: the buffer is then as it came.
 unfoldable pub saying : Reply → List ℕ → Said × List ℕ

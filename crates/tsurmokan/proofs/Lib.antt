@@ -1,1 +1,2 @@
+pub mod Minus
 pub mod Numbers

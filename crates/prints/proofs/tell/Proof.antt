@@ -1,21 +1,8 @@
 -- `prints::tell` meets its contract.
 use Rattle.prints.proofs.Printing.{tell-text, tell-refusal}
-use Prim.Native.Nat.{ℕ, zero, suc, _≤_, _<_, _-_, _+_, _*_, _^_}
-use mathlib.Core.Path.{_≡_, refl, sym, ap, _∙_}
-use mathlib.Core.Logic.{⊎-elim}
-use mathlib.Core.List.{List, [], _∷_, _++_}
-use mathlib.Core.Bool.{Bool, true, false}
-use native.Mathlib.Omega.{arith}
-use native.Mathlib.Numerals.{add-one}
-use borrow.Author.Needs.{needs}
-use borrow.Author.Tests.{lt-ltb, le-ltb, le-leb, lt-leb, eq-eqb, ne-eqb, not-true, not-false}
-use lib.ListN.{length, take, drop, getD, set}
 use borrow.Author.Needs.{needs}
 use Rattle.prints.proofs.tell.Statement.{statement}
 use Rattle.prints.proofs.tell.Tie as tie
-use Rattle.prints.proofs.tell.Reads as reads
-use Rattle.prints.proofs.tell.Lts as lts
-use Rattle.answer.proofs.put_refusal.Reads as put-refusal-reads
 
 enum-known-said : tie.Need-enum-known-said
 enum-known-said c = search needs

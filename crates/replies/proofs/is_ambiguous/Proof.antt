@@ -2,21 +2,12 @@
 use Rattle.replies.proofs.Sayings.{dichotomies-few, first-unmet}
 use lib.Dec.{leb}
 use lib.ListN.{length-take}
-use Prim.Native.Nat.{ℕ, zero, suc, _≤_, _<_, _-_, _+_, _*_, _^_}
-use mathlib.Core.Path.{_≡_, refl, sym, ap, _∙_}
-use mathlib.Core.Logic.{⊎-elim}
-use mathlib.Core.List.{List, [], _∷_, _++_}
-use mathlib.Core.Bool.{Bool, true, false}
+use Prim.Native.Nat.{_-_}
+use mathlib.Core.Path.{ap, _∙_}
 use native.Mathlib.Omega.{arith}
-use native.Mathlib.Numerals.{add-one}
 use borrow.Author.Needs.{needs}
-use borrow.Author.Tests.{lt-ltb, le-ltb, le-leb, lt-leb, eq-eqb, ne-eqb, not-true, not-false}
-use lib.ListN.{length, take, drop, getD, set}
 use Rattle.replies.proofs.is_ambiguous.Statement.{statement}
 use Rattle.replies.proofs.is_ambiguous.Tie as tie
-use Rattle.replies.proofs.is_ambiguous.Reads as reads
-use Rattle.replies.proofs.is_ambiguous.Lts as lts
-use Rattle.report.proofs.unmet_count.Reads as unmet-count-reads
 
 sub-first : tie.Need-sub-first
 sub-first c = dichotomies-few _ _ (c .before .before .before .pre)

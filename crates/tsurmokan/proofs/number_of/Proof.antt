@@ -2,23 +2,11 @@
 use Rattle.tsurmokan.proofs.Numbers.{back}
 use mathlib.Core.Path.{subst}
 use Rattle.tsurmokan.specs.Signed.{signed, Within}
-use Prim.Native.Nat.{ℕ, zero, suc, _≤_, _<_, _-_, _+_, _*_, _^_}
-use mathlib.Core.Path.{_≡_, refl, sym, ap, _∙_}
-use mathlib.Core.Logic.{⊎-elim}
-use mathlib.Core.List.{List, [], _∷_, _++_}
-use mathlib.Core.Bool.{Bool, true, false}
+use mathlib.Core.Path.{sym, ap, _∙_}
 use native.Mathlib.Omega.{arith}
-use native.Mathlib.Numerals.{add-one}
-use borrow.Author.Needs.{needs}
-use borrow.Author.Tests.{lt-ltb, le-ltb, le-leb, lt-leb, eq-eqb, ne-eqb, not-true, not-false}
-use lib.ListN.{length, take, drop, getD, set}
 use borrow.Author.Needs.{needs}
 use Rattle.tsurmokan.proofs.number_of.Statement.{statement}
 use Rattle.tsurmokan.proofs.number_of.Tie as tie
-use Rattle.tsurmokan.proofs.number_of.Reads as reads
-use Rattle.tsurmokan.proofs.number_of.Lts as lts
-use Rattle.answer.proofs.length_of.Reads as length-of-reads
-use Rattle.answer.proofs.minus_of.Reads as minus-of-reads
 
 enum-known-said : tie.Need-enum-known-said
 enum-known-said c = search needs

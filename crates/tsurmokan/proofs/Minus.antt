@@ -3,7 +3,6 @@ use mathlib.Core.Path.{_≡_, ap, _∙_}
 use Prim.Native.Nat.{ℕ, zero, suc, _<_}
 use native.Mathlib.Omega.{arith}
 use lib.IntN.{ℤ, pos, negℤ, _-ℤ_, +ℤ-idl}
-use lib.Signed.{mag}
 use mir.Syntax.{w64}
 use mir.Val.{toZ, ofZ, SFits}
 use mir.Facts.{toZ-pos, toZ-ofZ}
@@ -20,7 +19,3 @@ minus-fits m h = rw (zero-less m h) (neg-fits m h)
 
 pub minus-is : (m : ℕ) → m < 9223372036854775808 → toZ w64 (ofZ w64 (pos 0 -ℤ toZ w64 m)) ≡ negℤ (pos m)
 minus-is m h = toZ-ofZ (minus-fits m h) ∙ zero-less m h
-
--- a signed answer that is handed on
-pub handed-on : {z : ℤ} → mag z < 9223372036854775808 → toZ w64 (ofZ w64 z) ≡ z
-handed-on h = toZ-ofZ (record { sfits = h })

@@ -1,9 +1,7 @@
 -- What a program prints on refusal, by its fields, each with the byte that ends it.
-use mathlib.Core.Path.{_≡_, ap, _∙_}
-use mathlib.Core.List.{List, [], _∷_, _++_, append-assoc}
+use mathlib.Core.Path.{_≡_}
+use mathlib.Core.List.{[], _∷_, _++_, append-assoc}
 use Prim.Native.Nat.{ℕ}
-use lib.ListN.{length, length-append}
-use native.Mathlib.Omega.{arith}
 use Rattle.rules.specs.Refusals.{number}
 use Rattle.rules.specs.Text.{bytes, space, lf, decimal}
 use Rattle.rules.specs.Answers.{refuses, printed}

@@ -1,9 +1,9 @@
--- `answer::put_refusal` meets its contract.
+-- `prints::put_refusal` meets its contract.
 use borrow.Author.Needs.{needs}
 use Rattle.pen.proofs.Laws.{wrote-then, wrote-as}
-use Rattle.answer.proofs.Refused.{refused-fields}
-use Rattle.answer.proofs.put_refusal.Statement.{statement}
-use Rattle.answer.proofs.put_refusal.Tie as tie
+use Rattle.prints.proofs.Refused.{refused-fields}
+use Rattle.prints.proofs.put_refusal.Statement.{statement}
+use Rattle.prints.proofs.put_refusal.Tie as tie
 
 slice-aggregate-put-bytes : tie.Need-slice-aggregate-put-bytes
 slice-aggregate-put-bytes c = search needs

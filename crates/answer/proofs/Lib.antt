@@ -1,3 +1,0 @@
-pub mod Minus
-pub mod Refused
-pub mod Answered
