@@ -1,0 +1,70 @@
+/* The native encoder: 01's rule as a C programmer would ship it for speed, for host/bench to measure the library against. */
+#ifndef NATIVE_H
+#define NATIVE_H
+
+#include "base.h"
+
+typedef __UINT16_TYPE__ uint16_t;
+typedef __INT32_TYPE__ int32_t;
+
+/* 01's limits. A set of states fits into 32 digits. */
+#define NATIVE_STATES 32
+#define NATIVE_INPUTS 16
+#define NATIVE_OUTPUTS 32
+#define NATIVE_ROWS 128
+#define NATIVE_DICHOTOMIES 64
+#define NATIVE_BYTES 65536
+#define NATIVE_REQUIREMENTS 4400
+
+/* The most members of all requirements: 496 pairs, 128 groups of 16 states with 16 outside, 64 dichotomies of 32 states. */
+#define NATIVE_MEMBERS (496 * 2 + 128 * 16 * 17 + 64 * 32)
+
+/* The rows by columns, so that the scan for a conflict runs along them. */
+struct native_machine {
+    uint32_t states;
+    uint32_t inputs;
+    uint32_t outputs;
+    uint32_t width;
+    uint32_t rows;
+    uint32_t dichotomies;
+    uint32_t group[NATIVE_ROWS];
+    uint32_t bound[NATIVE_ROWS];  /* the group again, or nobody where the row names no next state */
+    uint32_t next[NATIVE_ROWS];   /* as a set */
+    uint32_t asks[NATIVE_ROWS];   /* the places that ask 0, and those that ask 1 sixteen digits higher */
+    uint32_t refuse[NATIVE_ROWS]; /* the same with the halves changed over */
+    uint32_t line[NATIVE_ROWS];
+    uint32_t first[NATIVE_DICHOTOMIES];
+    uint32_t second[NATIVE_DICHOTOMIES];
+};
+
+/* A requirement: its members (none once it is met), its second block, and the members that must change for first 0, second
+   1. A card's place is the requirement's number. */
+struct native_card {
+    uint32_t all;
+    uint32_t wrong;
+    uint32_t second;
+};
+
+struct native_code {
+    uint32_t states;
+    uint32_t asked;
+    uint32_t bits;
+    uint32_t bit[NATIVE_STATES];
+    uint64_t passes;
+    uint64_t looks;
+    uint32_t live; /* how many cards are still unmet, and which, ascending */
+    uint16_t unmet[NATIVE_REQUIREMENTS];
+    struct native_card card[NATIVE_REQUIREMENTS];
+    uint32_t start[NATIVE_STATES + 1]; /* where each state's part of `of` begins */
+    uint32_t number[NATIVE_STATES];    /* how many stand in it */
+    uint16_t of[NATIVE_MEMBERS];       /* the live cards that have a state, state by state */
+};
+
+/* Each answers 0, or number * 100000 + line of the refusal. */
+int64_t native_read(const uint8_t *listing, size_t length, struct native_machine *machine);
+int64_t native_encode(const struct native_machine *machine, struct native_code *code);
+
+/* 01's C entry: the length written, or minus (number * 100000 + line). */
+int64_t native_report(const uint8_t *listing, size_t listing_length, uint8_t *out, size_t out_length);
+
+#endif

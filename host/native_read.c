@@ -1,0 +1,190 @@
+/* The native encoder's reader: one walk over the listing, eight characters of a set at a time. */
+#include "native.h"
+
+static int64_t refusal(int64_t number, uint32_t line)
+{
+    return number * 100000 + line;
+}
+
+/* A walk: where it stands, and where the text ends. */
+struct walk {
+    const uint8_t *at;
+    const uint8_t *end;
+};
+
+/* A number of one to four digits without a leading zero, and the byte behind it. */
+static bool take_number(struct walk *walk, uint8_t behind, uint32_t *number)
+{
+    const uint8_t *start = walk->at;
+    uint32_t sum = 0;
+    while (walk->at < walk->end && walk->at - start < 4 && (uint8_t)(*walk->at - '0') <= 9)
+        sum = sum * 10 + (uint32_t)(*walk->at++ - '0');
+    *number = sum;
+    if (walk->at == start || (*start == '0' && walk->at - start > 1))
+        return false;
+    return walk->at < walk->end && *walk->at++ == behind;
+}
+
+/* `length` of `0 1` as a set; false if another character is there. The caller has seen that so many bytes are left. */
+static bool take_set(struct walk *walk, uint32_t length, uint32_t *set)
+{
+    uint32_t sum = 0;
+    uint32_t odd = 0;
+    uint32_t at = 0;
+    for (; at + 8 <= length; at += 8) {
+        uint64_t eight;
+        memcpy(&eight, walk->at + at, 8);
+        odd |= (eight & 0xFEFEFEFEFEFEFEFEu) != 0x3030303030303030u;
+        sum |= (uint32_t)(((eight & 0x0101010101010101u) * 0x0102040810204080u) >> 56) << at;
+    }
+    for (; at < length; at++) {
+        uint32_t one = (uint32_t)walk->at[at] - '0';
+        odd |= one > 1;
+        sum |= (one & 1) << at;
+    }
+    walk->at += length;
+    *set = sum;
+    return !odd;
+}
+
+/* `length` of `zero one neither`: the places with each of the first two. */
+static bool take_places(struct walk *walk, uint32_t length, const char *kinds, uint32_t *zeros, uint32_t *ones)
+{
+    uint32_t zero = 0;
+    uint32_t one = 0;
+    uint32_t odd = 0;
+    for (uint32_t at = 0; at < length; at++) {
+        uint8_t byte = walk->at[at];
+        zero |= (uint32_t)(byte == (uint8_t)kinds[0]) << at;
+        one |= (uint32_t)(byte == (uint8_t)kinds[1]) << at;
+        odd |= byte != (uint8_t)kinds[0] && byte != (uint8_t)kinds[1] && byte != (uint8_t)kinds[2];
+    }
+    walk->at += length;
+    *zeros = zero;
+    *ones = one;
+    return !odd;
+}
+
+static bool take_byte(struct walk *walk, uint8_t byte)
+{
+    return *walk->at++ == byte;
+}
+
+static int64_t read_head(struct walk *walk, struct native_machine *machine)
+{
+    if (walk->at == walk->end || *walk->at++ != ' ')
+        return refusal(1, 1);
+    if (!take_number(walk, ' ', &machine->states) || !take_number(walk, ' ', &machine->inputs) ||
+        !take_number(walk, ' ', &machine->outputs) || !take_number(walk, '\n', &machine->width))
+        return refusal(1, 1);
+    if (machine->states - 1 >= NATIVE_STATES || machine->inputs - 1 >= NATIVE_INPUTS ||
+        machine->outputs - 1 >= NATIVE_OUTPUTS || machine->width > NATIVE_STATES)
+        return refusal(2, 1);
+    return 0;
+}
+
+static int64_t read_row(struct walk *walk, uint32_t line, struct native_machine *machine)
+{
+    uint32_t group, next, zeros, ones, low, high;
+    uint32_t row = machine->rows;
+    if (walk->end - walk->at < (long)(machine->inputs + 2 * machine->states + machine->outputs + 5))
+        return refusal(1, line);
+    if (!take_byte(walk, ' ') || !take_places(walk, machine->inputs, "01-", &zeros, &ones) || !take_byte(walk, ' ') ||
+        !take_set(walk, machine->states, &group) || !take_byte(walk, ' ') || !take_set(walk, machine->states, &next) ||
+        !take_byte(walk, ' ') || !take_places(walk, machine->outputs, "01-", &low, &high) || !take_byte(walk, '\n'))
+        return refusal(1, line);
+    if (row == NATIVE_ROWS)
+        return refusal(2, line);
+    if (group == 0)
+        return refusal(4, line);
+    if (next & (next - 1))
+        return refusal(5, line);
+    machine->group[row] = group;
+    machine->bound[row] = next ? group : 0;
+    machine->next[row] = next;
+    machine->asks[row] = zeros | ones << 16;
+    machine->refuse[row] = ones | zeros << 16;
+    machine->line[row] = line;
+    machine->rows = row + 1;
+    return 0;
+}
+
+static int64_t read_dichotomy(struct walk *walk, uint32_t line, struct native_machine *machine)
+{
+    uint32_t first, second;
+    if (walk->end - walk->at < (long)(machine->states + 2))
+        return refusal(1, line);
+    if (!take_byte(walk, ' ') || !take_places(walk, machine->states, "+-.", &first, &second) || !take_byte(walk, '\n'))
+        return refusal(1, line);
+    if (machine->dichotomies == NATIVE_DICHOTOMIES)
+        return refusal(2, line);
+    machine->first[machine->dichotomies] = first;
+    machine->second[machine->dichotomies] = second;
+    machine->dichotomies++;
+    return 0;
+}
+
+/* The mark is the whole first field: two bytes, then a space, a LF or the end. 0 for any other. */
+static uint32_t mark_at(const struct walk *walk)
+{
+    if (walk->end - walk->at < 2)
+        return 0;
+    if (walk->end - walk->at > 2 && walk->at[2] != ' ' && walk->at[2] != '\n')
+        return 0;
+    return (uint32_t)walk->at[0] << 8 | walk->at[1];
+}
+
+#define MARK(one, other) ((uint32_t)(one) << 8 | (other))
+
+/* Two rows clash when they share a state and an input vector and name different next states. The inner loop has no way
+   out, so that it runs along the columns; the row is looked for only where there is one. */
+static int64_t find_conflict(const struct native_machine *machine)
+{
+    for (uint32_t earlier = 0; earlier < machine->rows; earlier++) {
+        uint32_t bound = machine->bound[earlier], next = machine->next[earlier], asks = machine->asks[earlier];
+        uint32_t found = 0;
+        for (uint32_t later = earlier + 1; later < machine->rows; later++)
+            found |= ((bound & machine->bound[later]) != 0) & (next != machine->next[later]) &
+                     ((asks & machine->refuse[later]) == 0);
+        if (!found)
+            continue;
+        for (uint32_t later = earlier + 1;; later++)
+            if ((bound & machine->bound[later]) != 0 && next != machine->next[later] &&
+                (asks & machine->refuse[later]) == 0)
+                return refusal(6, machine->line[later]);
+    }
+    return 0;
+}
+
+int64_t native_read(const uint8_t *listing, size_t length, struct native_machine *machine)
+{
+    struct walk walk = {listing, listing + length};
+    machine->rows = 0;
+    machine->dichotomies = 0;
+    if (length > NATIVE_BYTES)
+        return refusal(2, 0);
+    for (uint32_t line = 1; walk.at < walk.end; line++) {
+        uint32_t mark = mark_at(&walk);
+        int64_t fault = 0;
+        if ((line == 1) != (mark == MARK('M', 'C')))
+            return refusal(3, line);
+        if (mark == 0)
+            return refusal(1, line);
+        walk.at += 2;
+        if (mark == MARK('P', 'T'))
+            fault = read_row(&walk, line, machine);
+        else if (mark == MARK('D', 'I'))
+            fault = read_dichotomy(&walk, line, machine);
+        else if (mark == MARK('M', 'C'))
+            fault = read_head(&walk, machine);
+        else if (mark != MARK('E', 'N') || walk.at == walk.end || *walk.at != '\n')
+            fault = refusal(1, line);
+        else
+            return walk.at + 1 == walk.end ? find_conflict(machine) : refusal(3, line + 1);
+        if (fault != 0)
+            return fault;
+        if (walk.at == walk.end)
+            return refusal(3, line + 1);
+    }
+    return refusal(3, 1);
+}
