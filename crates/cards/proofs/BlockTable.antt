@@ -1,18 +1,18 @@
--- The table of blocks, laid out in one go, holds the blocks of a listing.
-use mathlib.Core.Path.{_≡_, refl, ap, _∙_}
+-- The table of blocks, laid out in one go, holds the blocks of a listing, and the groups are read back from it.
+use mathlib.Core.Path.{_≡_, refl, sym, ap, _∙_}
 use mathlib.Core.List.{List, [], _∷_}
-use Prim.Native.Nat.{ℕ, zero, suc, _+_, _*_, _≤_, _<_}
+use Prim.Native.Nat.{ℕ, zero, suc, _+_, _*_, _-_, _≤_, _<_}
 use native.Mathlib.Nat.{zero-add}
 use native.Mathlib.Omega.{arith}
-use lib.ListN.{length, getD, set, length-set, length-map, length-take}
-use lib.Seq.{sets, length-sets, getD-set-same, getD-set-other}
+use lib.ListN.{length, getD, drop, set, length-set, length-map, length-take, length-drop}
+use lib.Seq.{sets, length-sets, getD-set-same, getD-set-other, getD-take, getD-drop, ext-getD}
 use Rattle.sets.specs.Sets.{only, statesFrom}
 use Rattle.rules.specs.Listing.{noRow, noRequirement, rowsOf, dichotomiesOf}
 use Rattle.rules.specs.declared.Row.{Row}
 use Rattle.rules.specs.declared.Requirement.{Requirement}
 use Rattle.rules.specs.declared.Listing.{Listing}
-use Rattle.cards.specs.Cards.{groupPlace, firstPlace, secondPlace, Laid}
-use Rattle.cards.specs.BlockTable.{alone, groupsOf, sides, laidOut}
+use Rattle.cards.specs.Cards.{groupPlace, firstPlace, secondPlace, groupsOf, Laid}
+use Rattle.cards.specs.BlockTable.{alone, sides, laidOut, groupsIn}
 use Rattle.cards.proofs.Limits.{Within}
 
 -- ---- a run of stores
@@ -124,3 +124,26 @@ laid t blocks w long =
       firsts = λ d h. in-third blocks xs ys zs long few-x few-y few-z (2 * d) (firstPlace d) (omega arith) (omega arith) ∙ first-at ds d h;
       seconds = λ d h. in-third blocks xs ys zs long few-x few-y few-z (1 + 2 * d) (secondPlace d) (omega arith) (omega arith) ∙ second-at ds d h;
     }
+
+pub laid-length : (t : Listing) (blocks : List ℕ) → length (laidOut t blocks) ≡ length blocks
+unfolding laidOut
+laid-length t blocks =
+    let xs = alone (statesFrom 0 (t .head .states)) in
+    let ys = groupsOf (rowsOf t) in
+    length-sets (sets (sets blocks 0 xs) (groupPlace 0) ys) (firstPlace 0) (sides (dichotomiesOf t))
+    ∙ length-sets (sets blocks 0 xs) (groupPlace 0) ys
+    ∙ length-sets blocks 0 xs
+
+pub groups-in : (t : Listing) (blocks : List ℕ) → Within t → 320 ≤ length blocks → t .rows ≤ length (t .table)
+    → groupsIn (laidOut t blocks) (t .rows) ≡ groupsOf (rowsOf t)
+groups-in t blocks w long fits =
+    let table = laidOut t blocks in
+    let rows : length (rowsOf t) ≡ t .rows = omega (arith, length-take (t .rows) (t .table)) in
+    let from : length (drop (groupPlace 0) table) ≡ length blocks - 64 = omega (arith, length-drop (groupPlace 0) table, laid-length t blocks) in
+    let part : length (groupsIn table (t .rows)) ≡ t .rows = omega (arith, length-take (t .rows) (drop (groupPlace 0) table), from, w .few-rows) in
+    ext-getD 0 (groupsIn table (t .rows)) (groupsOf (rowsOf t)) (part ∙ sym rows ∙ sym (length-map (rowsOf t) (λ r. r .group)))
+    (λ r h.
+    getD-take (t .rows) (drop (groupPlace 0) table) r 0 (omega arith)
+    ∙ getD-drop (groupPlace 0) table r 0
+    ∙ laid t blocks w long .groups r (omega arith)
+    ∙ sym (groups-at (rowsOf t) r))

@@ -4,14 +4,15 @@ use mathlib.Core.List.{List, [], _∷_, _++_}
 use Prim.Native.Nat.{ℕ, suc, _+_, _≤_}
 use native.Mathlib.Nat.{add-zero}
 use native.Mathlib.Omega.{arith}
-use lib.ListN.{length, take, drop, set, length-append, take-append-drop}
-use lib.Seq.{sets, length-sets, sets-eq, take-at, drop-at}
-use Rattle.cards.specs.Cards.{numbered, Pile}
+use lib.ListN.{length, take, drop, set, length-append}
+use lib.Seq.{sets, length-sets, sets-eq, take-at}
+use Rattle.cards.specs.Cards.{numbered}
 use Rattle.cards.specs.Dealing.{Dealt, Room}
+use Rattle.cards.specs.DealtOut.{piled}
 
 -- ---- lists
 
-numbered-length : (k : ℕ) (cs : List ℕ) → length (numbered k cs) ≡ length cs
+pub numbered-length : (k : ℕ) (cs : List ℕ) → length (numbered k cs) ≡ length cs
 unfolding numbered
 numbered-length k [] = refl
 numbered-length k (c ∷ cs) = ap suc (numbered-length (k + 1) cs)
@@ -82,27 +83,14 @@ module _ {pile : List ℕ} {at : ℕ} {rest start : List ℕ} {k : ℕ} {all : L
 
 -- ---- the whole pile
 
-pub dealt-pile : (start cs after : List ℕ) (r : ℕ) → Room start 0 cs → Dealt start 0 cs after r → Pile after r cs × (drop r after ≡ drop r start)
-dealt-pile start cs after r room d =
+pub dealt-piled : (start cs after : List ℕ) (r : ℕ) → Room start 0 cs → Dealt start 0 cs after r → (r ≡ length cs) × (after ≡ piled cs start)
+unfolding piled
+dealt-piled start cs after r room d =
     let fits : 0 + length (numbered 0 cs) ≤ length start = omega (arith, numbered-length 0 cs, room .few, room .long) in
-    let whole : after ≡ numbered 0 cs ++ drop (0 + length (numbered 0 cs)) start = d .pile ∙ sets-eq (numbered 0 cs) start 0 fits in
-    let long : length (numbered 0 cs) ≡ r = omega (arith, numbered-length 0 cs, d .next) in
-    let same : 0 + length (numbered 0 cs) ≡ r = omega arith in (
-      record {
-        count = omega (arith, d .next);
-        room = omega (arith, room .few, room .long, ap length (d .pile), length-sets start 0 (numbered 0 cs));
-        dealt = ap (take r) whole ∙ take-at (numbered 0 cs) (drop (0 + length (numbered 0 cs)) start) r long;
-      },
-      ap (drop r) whole
-          ∙ drop-at (numbered 0 cs) (drop (0 + length (numbered 0 cs)) start) r long
-          ∙ ap (λ (k : ℕ). drop k start) same,
-    )
+    let long : 0 + length (numbered 0 cs) ≡ length cs = omega (arith, numbered-length 0 cs) in
+    (omega (arith, d .next), d .pile ∙ sets-eq (numbered 0 cs) start 0 fits ∙ ap (λ (k : ℕ). numbered 0 cs ++ drop k start) long)
 
--- any two results that the promise of a drawing allows are equal
-pub pile-once : (start cs a b : List ℕ) (r q : ℕ) → Pile a r cs × (drop r a ≡ drop r start) → Pile b q cs × (drop q b ≡ drop q start) → (r ≡ q) × (a ≡ b)
-pile-once start cs a b r q x y =
-    let same : r ≡ q = x .0 .count ∙ sym (y .0 .count) in
-    (same, sym (whole a r x) ∙ ap (λ (k : ℕ). numbered 0 cs ++ drop k start) same ∙ whole b q y)
-  where
-    whole : (l : List ℕ) (k : ℕ) → Pile l k cs × (drop k l ≡ drop k start) → numbered 0 cs ++ drop k start ≡ l
-    whole l k z = ap₂ (λ (m n : List ℕ). m ++ n) (sym (z .0 .dealt)) (sym (z .1)) ∙ take-append-drop k l
+-- the cards are the first of it
+pub piled-first : (cs pile : List ℕ) → take (length cs) (piled cs pile) ≡ numbered 0 cs
+unfolding piled
+piled-first cs pile = take-at (numbered 0 cs) (drop (length cs) pile) (length cs) (numbered-length 0 cs)

@@ -13,9 +13,9 @@ use Rattle.rules.specs.declared.Row.{Row}
 use Rattle.rules.specs.declared.Listing.{Listing}
 use Rattle.rules.proofs.Runs.{Below}
 use Rattle.rules.proofs.Asked.{outside-not, outside-member, newGroup, groups-step}
-use Rattle.passes.specs.Moves.{requirementOf, drawn}
+use Rattle.shares.specs.Moves.{requirementOf, drawn}
 use Rattle.cards.specs.Cards.{groupPlace, firstPlace, secondPlace, Laid}
-use Rattle.cards.specs.Cards.{placed, withStates, pairCards, asksNew, rowCards, groupCards, dichotomyCards, cardsOf}
+use Rattle.cards.specs.Cards.{placed, withStates, pairCards, asksNew, rowCards, groupCards, dichotomyCards, groupsOf, cardsOf}
 use Rattle.cards.proofs.Limits.{Within}
 
 -- ---- one card
@@ -61,7 +61,7 @@ module _ (blocks : List ℕ) (n : ℕ) (few : n ≤ 512) (singles : (s : ℕ) �
       ∙ ap₂ (λ (xs ys : List Requirement). xs ++ ys) (with-shows s (only s) (omega (arith, h .0)) (singles s (h .0)) ss (h .1)) (pairs-show ss (h .1))
 
   row-shows : (m r : ℕ) (earlier : List ℕ) (x : Row) → m ≤ n → r < 128 → getD blocks (groupPlace r) 0 ≡ x .group
-      → drawn blocks (rowCards m r earlier x) ≡ cond (newGroup m earlier (x .group)) (groupAsks m (x .group)) []
+      → drawn blocks (rowCards m r earlier (x .group)) ≡ cond (newGroup m earlier (x .group)) (groupAsks m (x .group)) []
   unfolding groupAsks
   row-shows m r earlier x h p e = go (asksNew m (x .group) earlier)
     where
@@ -74,11 +74,11 @@ module _ (blocks : List ℕ) (n : ℕ) (few : n ≤ 512) (singles : (s : ℕ) �
 
   groups-show : (m r : ℕ) (earlier : List ℕ) (rows : List Row) → m ≤ n → r + length rows ≤ 128
       → ((j k : ℕ) → r + j ≡ k → j < length rows → getD blocks (groupPlace k) 0 ≡ getD rows j noRow .group)
-      → drawn blocks (groupCards m r earlier rows) ≡ groups m earlier rows
+      → drawn blocks (groupCards m r earlier (groupsOf rows)) ≡ groups m earlier rows
   unfolding groupCards groups
   groups-show m r earlier [] h p e = refl
   groups-show m r earlier (x ∷ xs) h p e =
-      map-append (requirementOf blocks) (rowCards m r earlier x) (groupCards m (r + 1) (x .group ∷ earlier) xs)
+      map-append (requirementOf blocks) (rowCards m r earlier (x .group)) (groupCards m (r + 1) (x .group ∷ earlier) (groupsOf xs))
       ∙ ap₂ (λ (ys zs : List Requirement). ys ++ zs)
       (row-shows m r earlier x h (omega arith) (e 0 r (omega arith) (omega arith)))
       (groups-show m (r + 1) (x .group ∷ earlier) xs h (omega arith) (λ j k q l. e (suc j) k (omega arith) (omega arith)))
@@ -115,9 +115,10 @@ module _ (t : Listing) (w : Within t) (blocks : List ℕ) (l : Laid t blocks) wh
       let ps = pairs-show blocks n few (l .singles) (statesFrom 0 n) (states-below 0 n n (omega arith)) in
       let gs = groups-show blocks n few (l .singles) n 0 [] rows (omega arith) few-rows (λ j k e q. at groupPlace j k e ∙ l .groups j q) in
       let qs = dichotomies-show blocks 0 ds few-ds (λ j k e q. at firstPlace j k e ∙ l .firsts j q) (λ j k e q. at secondPlace j k e ∙ l .seconds j q) in
-      map-append (requirementOf blocks) (pairCards (statesFrom 0 n)) (groupCards n 0 [] rows ++ dichotomyCards 0 (length ds))
+      let asked = groupCards n 0 [] (groupsOf rows) in
+      map-append (requirementOf blocks) (pairCards (statesFrom 0 n)) (asked ++ dichotomyCards 0 (length ds))
       ∙ ap₂ (λ (xs ys : List Requirement). xs ++ ys) ps
-      (map-append (requirementOf blocks) (groupCards n 0 [] rows) (dichotomyCards 0 (length ds)) ∙ ap₂ (λ (xs ys : List Requirement). xs ++ ys) gs qs)
+      (map-append (requirementOf blocks) asked (dichotomyCards 0 (length ds)) ∙ ap₂ (λ (xs ys : List Requirement). xs ++ ys) gs qs)
       ∙ sym (append-assoc (pairs (statesFrom 0 n)) (groups n [] rows) ds)
     where
       at : (place : ℕ → ℕ) (j k : ℕ) → 0 + j ≡ k → getD blocks (place k) 0 ≡ getD blocks (place j) 0

@@ -10,8 +10,8 @@ use Rattle.sets.specs.Sets.{only, statesFrom}
 use Rattle.rules.specs.Listing.{noRow, noRequirement}
 use Rattle.rules.specs.declared.Row.{Row}
 use Rattle.rules.specs.declared.Requirement.{Requirement}
-use Rattle.cards.specs.Cards.{groupPlace, firstPlace, secondPlace}
-use Rattle.cards.specs.BlockTable.{alone, groupsOf, sides}
+use Rattle.cards.specs.Cards.{groupPlace, firstPlace, secondPlace, groupsOf}
+use Rattle.cards.specs.BlockTable.{alone, sides}
 use Rattle.cards.proofs.Tables.{entry, no-entry}
 use Rattle.cards.proofs.States.{states-more, states-none}
 

@@ -9,10 +9,9 @@ use Rattle.sets.specs.Sets.{statesFrom}
 use Rattle.rules.specs.Listing.{rowsOf, dichotomiesOf}
 use Rattle.rules.specs.Requirements.{asks, outside}
 use Rattle.rules.specs.declared.Requirement.{Requirement}
-use Rattle.rules.specs.declared.Row.{Row}
 use Rattle.rules.specs.declared.Listing.{Listing}
-use Rattle.passes.specs.Moves.{numberOf, drawn}
-use Rattle.cards.specs.Cards.{groupPlace, withStates, pairCards, asksNew, rowCards, groupCards, dichotomyCards, cardsOf, numbered}
+use Rattle.shares.specs.Moves.{numberOf, drawn}
+use Rattle.cards.specs.Cards.{groupPlace, withStates, pairCards, asksNew, rowCards, groupCards, dichotomyCards, groupsOf, cardsOf, numbered}
 
 -- ---- cards without a number
 
@@ -33,19 +32,19 @@ unfolding pairCards
 plain-pairs [] = tt
 plain-pairs (s ∷ ss) = plain-append (withStates s ss) (pairCards ss) (plain-with s ss) (plain-pairs ss)
 
-plain-row : (n r : ℕ) (earlier : List ℕ) (x : Row) → AllPlain (rowCards n r earlier x)
-plain-row n r earlier x = go (asksNew n (x .group) earlier)
+plain-row : (n r : ℕ) (earlier : List ℕ) (g : ℕ) → AllPlain (rowCards n r earlier g)
+plain-row n r earlier g = go (asksNew n g earlier)
   where
-    go : (b : Bool) → AllPlain (cond b (withStates (groupPlace r) (outside (x .group) (statesFrom 0 n))) [])
-    go true = plain-with (groupPlace r) (outside (x .group) (statesFrom 0 n))
+    go : (b : Bool) → AllPlain (cond b (withStates (groupPlace r) (outside g (statesFrom 0 n))) [])
+    go true = plain-with (groupPlace r) (outside g (statesFrom 0 n))
     go false = tt
 
-plain-groups : (n r : ℕ) (earlier : List ℕ) (rows : List Row) → AllPlain (groupCards n r earlier rows)
+plain-groups : (n r : ℕ) (earlier groups : List ℕ) → AllPlain (groupCards n r earlier groups)
 unfolding groupCards
 plain-groups n r earlier [] = tt
-plain-groups n r earlier (x ∷ xs) =
-    let hs = x .group ∷ earlier in
-    plain-append (rowCards n r earlier x) (groupCards n (r + 1) hs xs) (plain-row n r earlier x) (plain-groups n (r + 1) hs xs)
+plain-groups n r earlier (g ∷ gs) =
+    let hs = g ∷ earlier in
+    plain-append (rowCards n r earlier g) (groupCards n (r + 1) hs gs) (plain-row n r earlier g) (plain-groups n (r + 1) hs gs)
 
 plain-dichotomies : (d k : ℕ) → AllPlain (dichotomyCards d k)
 unfolding dichotomyCards
@@ -56,8 +55,9 @@ pub plain-cards : (t : Listing) → AllPlain (cardsOf t)
 unfolding cardsOf
 plain-cards t =
     let n : ℕ = t .head .states in
+    let gs = groupsOf (rowsOf t) in
     plain-append (pairCards (statesFrom 0 n)) _ (plain-pairs (statesFrom 0 n))
-    (plain-append (groupCards n 0 [] (rowsOf t)) _ (plain-groups n 0 [] (rowsOf t)) (plain-dichotomies 0 (length (dichotomiesOf t))))
+    (plain-append (groupCards n 0 [] gs) _ (plain-groups n 0 [] gs) (plain-dichotomies 0 (length (dichotomiesOf t))))
 
 -- ---- and with one
 

@@ -2,9 +2,9 @@
 use mathlib.Core.Bool.{Bool, _&&_, not, cond}
 use mathlib.Core.Path.{_≡_}
 use mathlib.Core.List.{List, [], _∷_, _++_, map}
-use Prim.Native.Nat.{ℕ, zero, suc, _+_, _*_, _≤_, _<_}
+use Prim.Native.Nat.{ℕ, zero, suc, _+_, _*_, _<_}
 use lib.Dec.{leb, ltb}
-use lib.ListN.{length, getD, take}
+use lib.ListN.{length, getD}
 use Rattle.sets.specs.Sets.{only, size, statesFrom}
 use Rattle.rules.specs.Listing.{noRow, noRequirement, rowsOf, dichotomiesOf}
 use Rattle.rules.specs.Requirements.{outside, stood}
@@ -44,33 +44,35 @@ pairCards (i ∷ js) = withStates i js ++ pairCards js
 abbrev pub asksNew : ℕ → ℕ → List ℕ → Bool
 asksNew n g earlier = leb 2 (size g) && ltb (size g) n && not (stood g earlier)
 
--- what row r asks, behind rows with the earlier groups
-abbrev pub rowCards : ℕ → ℕ → List ℕ → Row → List ℕ
-rowCards n r earlier x = cond (asksNew n (x .group) earlier) (withStates (groupPlace r) (outside (x .group) (statesFrom 0 n))) []
+-- what row r with the group g asks, behind rows with the earlier groups
+abbrev pub rowCards : ℕ → ℕ → List ℕ → ℕ → List ℕ
+rowCards n r earlier g = cond (asksNew n g earlier) (withStates (groupPlace r) (outside g (statesFrom 0 n))) []
 
-unfoldable pub groupCards : ℕ → ℕ → List ℕ → List Row → List ℕ
+-- what the rows from row r on ask, by their groups
+unfoldable pub groupCards : ℕ → ℕ → List ℕ → List ℕ → List ℕ
 unfolding outside stood statesFrom
 groupCards n r earlier [] = []
-groupCards n r earlier (x ∷ xs) = rowCards n r earlier x ++ groupCards n (r + 1) (x .group ∷ earlier) xs
+groupCards n r earlier (g ∷ gs) = rowCards n r earlier g ++ groupCards n (r + 1) (g ∷ earlier) gs
 
 -- k dichotomies from number d on
 unfoldable pub dichotomyCards : ℕ → ℕ → List ℕ
 dichotomyCards d zero = []
 dichotomyCards d (suc k) = placed (firstPlace d) (secondPlace d) ∷ dichotomyCards (d + 1) k
 
-unfoldable pub cardsOf : Listing → List ℕ
+-- the cards of n states, of rows with these groups and of d dichotomies
+unfoldable pub allCards : ℕ → List ℕ → ℕ → List ℕ
 unfolding pairCards groupCards dichotomyCards statesFrom
-cardsOf t =
-    pairCards (statesFrom 0 (t .head .states))
-    ++ (groupCards (t .head .states) 0 [] (rowsOf t) ++ dichotomyCards 0 (length (dichotomiesOf t)))
+allCards n groups d = pairCards (statesFrom 0 n) ++ (groupCards n 0 [] groups ++ dichotomyCards 0 d)
+
+-- the groups of some rows
+abbrev pub groupsOf : List Row → List ℕ
+groupsOf rs = map (λ r. r .group) rs
+
+unfoldable pub cardsOf : Listing → List ℕ
+unfolding allCards
+cardsOf t = allCards (t .head .states) (groupsOf (rowsOf t)) (length (dichotomiesOf t))
 
 -- numbered from k
 unfoldable pub numbered : ℕ → List ℕ → List ℕ
 numbered k [] = []
 numbered k (c ∷ cs) = (k + c) ∷ numbered (k + 1) cs
-
--- the pile has k cards, numbered from 0
-pub record Pile (cards : List ℕ) (k : ℕ) (cs : List ℕ) : Type 0 where
-  pub count : k ≡ length cs
-  pub room : length cs ≤ length cards
-  pub dealt : take k cards ≡ numbered 0 cs

@@ -4,9 +4,6 @@ use mathlib.Core.List.{List, [], _∷_}
 use Prim.Native.Nat.{ℕ, zero, suc, _+_, _≤_}
 use lib.ListN.{length, getD}
 use lib.Seq.{sets}
-use Rattle.rules.specs.Listing.{noRow}
-use Rattle.rules.specs.declared.Row.{Row}
-use Rattle.rules.specs.declared.Listing.{Listing}
 use Rattle.cards.specs.Cards.{rowCards, numbered}
 
 -- the most cards of a listing
@@ -23,11 +20,11 @@ pub record Room (pile : List ℕ) (k : ℕ) (cs : List ℕ) : Type 0 where
   pub few : k + length cs ≤ most-cards
   pub long : most-cards ≤ length pile
 
--- the groups of the rows before row r, the last of them first
-unfoldable pub earlierGroups : List Row → ℕ → List ℕ
-earlierGroups rows zero = []
-earlierGroups rows (suc r) = getD rows r noRow .group ∷ earlierGroups rows r
+-- the groups before that of row r, the last of them first
+unfoldable pub earlierGroups : List ℕ → ℕ → List ℕ
+earlierGroups groups zero = []
+earlierGroups groups (suc r) = getD groups r 0 ∷ earlierGroups groups r
 
--- the cards of row r of a listing
-abbrev pub cardsOfRow : Listing → ℕ → List ℕ
-cardsOfRow t r = rowCards (t .head .states) r (earlierGroups (t .table) r) (getD (t .table) r noRow)
+-- what row r asks
+abbrev pub cardsOfRow : ℕ → List ℕ → ℕ → List ℕ
+cardsOfRow n groups r = rowCards n r (earlierGroups groups r) (getD groups r 0)

@@ -2,3 +2,4 @@ pub mod Fair
 pub mod Cards
 pub mod Dealing
 pub mod BlockTable
+pub mod DealtOut

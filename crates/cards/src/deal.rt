@@ -1,16 +1,12 @@
-// The drawing of the cards: pairs, what the rows ask, dichotomies.
+// The dealing of the cards: pairs, what the rows ask, dichotomies.
 ghost use mathlib.Core.Path.{_≡_};
-ghost use mathlib.Core.Bool.{true};
 ghost use mathlib.Core.List.{[], _∷_};
 ghost use Prim.Native.Nat.{_+_, _-_, _<_, _≤_};
-ghost use lib.ListN.{set};
+ghost use lib.ListN.{length, set};
 ghost use Rattle.sets.specs.Sets.{statesFrom};
-ghost use Rattle.rules.specs.Listing.{rowsOf};
 ghost use Rattle.rules.specs.Requirements.{outside, stood};
-ghost use Rattle.cards.specs.Fair.{withinLimits};
 ghost use Rattle.cards.specs.Cards.{placed, withStates, pairCards, asksNew, groupCards, dichotomyCards};
 ghost use Rattle.cards.specs.Dealing.{Dealt, Room, earlierGroups, cardsOfRow};
-use rules::Listing;
 
 // Card k: the number of a requirement, and the places of its two blocks.
 fn put_card(k: usize, first: usize, second: usize, cards: &mut [u32])
@@ -61,15 +57,14 @@ pub fn pairs(n: usize, cards: &mut [u32]) -> usize
 }
 
 // Whether the group g has stood in a row before row r.
-fn has_stood(t: Listing, g: u64, r: usize) -> bool
-    requires { ⌜ r ≤ 128 ⌝ }
-    ensures { λ w. ⌜ w ≡ stood g (earlierGroups (t .table) r) ⌝ }
+fn has_stood(groups: &[u64], g: u64, r: usize) -> bool
+    requires { ⌜ r ≤ length (now groups) ⌝ }
+    ensures { λ w. ⌜ w ≡ stood g (earlierGroups (now (groups .entry)) r) ⌝ }
 {
     let mut i = r;
     while 0 < i {
         i -= 1;
-        let row = t.table[i];
-        if g == row.group {
+        if g == groups[i] {
             return true;
         }
     }
@@ -77,42 +72,41 @@ fn has_stood(t: Listing, g: u64, r: usize) -> bool
 }
 
 // Whether the group g of row r asks.
-fn asks_new(t: Listing, g: u64, r: usize) -> bool
-    requires { ⌜ r ≤ 128 ⌝ }
-    ensures { λ w. ⌜ w ≡ asksNew (t .head .states) g (earlierGroups (t .table) r) ⌝ }
+fn asks_new(n: usize, groups: &[u64], g: u64, r: usize) -> bool
+    requires { ⌜ r ≤ length (now groups) ⌝ }
+    ensures { λ w. ⌜ w ≡ asksNew n g (earlierGroups (now (groups .entry)) r) ⌝ }
 {
     let size = sets::size_of(g) as usize;
     if size < 2 {
         return false;
     }
-    if t.head.states <= size {
+    if n <= size {
         return false;
     }
-    !has_stood(t, g, r)
+    !has_stood(groups, g, r)
 }
 
 // What row r asks.
-fn deal_row(t: Listing, r: usize, k: usize, cards: &mut [u32]) -> usize
-    requires { ⌜ (t .head .states ≤ 32) × (r < 128) × Room (now cards) k (cardsOfRow t r) ⌝ }
-    ensures { λ w. ⌜ Dealt (now (cards .entry)) k (cardsOfRow t r) (now (cards .exit)) w ⌝ }
+fn deal_row(n: usize, groups: &[u64], r: usize, k: usize, cards: &mut [u32]) -> usize
+    requires { ⌜ (n ≤ 32) × (length (now groups) ≤ 128) × (r < length (now groups)) × Room (now cards) k (cardsOfRow n (now groups) r) ⌝ }
+    ensures { λ w. ⌜ Dealt (now (cards .entry)) k (cardsOfRow n (now (groups .entry)) r) (now (cards .exit)) w ⌝ }
 {
-    let n = t.head.states;
-    let row = t.table[r];
-    if asks_new(t, row.group, r) {
-        return deal_states(64 + r, row.group, 0, n, k, cards);
+    let g = groups[r];
+    if asks_new(n, groups, g, r) {
+        return deal_states(64 + r, g, 0, n, k, cards);
     }
     k
 }
 
-// What the rows ask.
-pub fn groups(t: Listing, k: usize, cards: &mut [u32]) -> usize
-    requires { ⌜ (withinLimits t ≡ true) × Room (now cards) k (groupCards (t .head .states) 0 [] (rowsOf t)) ⌝ }
-    ensures { λ w. ⌜ Dealt (now (cards .entry)) k (groupCards (t .head .states) 0 [] (rowsOf t)) (now (cards .exit)) w ⌝ }
+// What the rows with these groups ask.
+pub fn groups(n: usize, groups: &[u64], k: usize, cards: &mut [u32]) -> usize
+    requires { ⌜ (n ≤ 32) × (length (now groups) ≤ 128) × Room (now cards) k (groupCards n 0 [] (now groups)) ⌝ }
+    ensures { λ w. ⌜ Dealt (now (cards .entry)) k (groupCards n 0 [] (now (groups .entry))) (now (cards .exit)) w ⌝ }
 {
     let mut at = k;
     let mut r: usize = 0;
-    while r < t.rows {
-        at = deal_row(t, r, at, cards);
+    while r < groups.len() {
+        at = deal_row(n, groups, r, at, cards);
         r += 1;
     }
     at

@@ -5,7 +5,8 @@ ghost use lib.ListN.{length};
 ghost use lib.Seq.{sets};
 ghost use Rattle.sets.specs.Sets.{statesFrom};
 ghost use Rattle.rules.specs.Listing.{rowsOf, dichotomiesOf};
-ghost use Rattle.cards.specs.BlockTable.{alone, groupsOf, sides};
+ghost use Rattle.cards.specs.Cards.{groupsOf};
+ghost use Rattle.cards.specs.BlockTable.{alone, sides};
 use rules::Listing;
 
 // The n states, each alone.

@@ -6,14 +6,16 @@ mod lay;
 ghost use mathlib.Core.Path.{_≡_};
 ghost use mathlib.Core.Bool.{true};
 ghost use Prim.Native.Nat.{_≤_};
-ghost use lib.ListN.{length, drop};
-ghost use Rattle.cards.specs.Fair.{fair};
-ghost use Rattle.cards.specs.Cards.{Laid, cardsOf, Pile};
-ghost use Rattle.cards.specs.BlockTable.{laidOut};
+ghost use lib.ListN.{length};
+ghost use Rattle.cards.specs.Fair.{withinLimits, fair};
+ghost use Rattle.cards.specs.Cards.{allCards};
+ghost use Rattle.cards.specs.Dealing.{Dealt, Room};
+ghost use Rattle.cards.specs.BlockTable.{laidOut, groupsIn};
+ghost use Rattle.cards.specs.DealtOut.{dealtOut};
 use rules::Listing;
 
 // Whether a listing is one that the encoder takes.
-pub fn is_fair(t: Listing) -> bool
+fn is_fair(t: Listing) -> bool
     ensures { λ r. ⌜ r ≡ fair t ⌝ }
 {
     if !checks::within_limits(t) {
@@ -26,22 +28,41 @@ pub fn is_fair(t: Listing) -> bool
 }
 
 // The table of a listing's blocks. What is none of its places is left as it was.
-pub fn lay_blocks(t: Listing, blocks: &mut [u64])
-    requires { ⌜ (fair t ≡ true) × (320 ≤ length (now blocks)) ⌝ }
-    ensures { λ r. ⌜ Laid t (now (blocks .exit)) × (now (blocks .exit) ≡ laidOut t (now (blocks .entry))) ⌝ }
+fn lay_blocks(t: Listing, blocks: &mut [u64])
+    requires { ⌜ (withinLimits t ≡ true) × (320 ≤ length (now blocks)) ⌝ }
+    ensures { λ r. ⌜ now (blocks .exit) ≡ laidOut t (now (blocks .entry)) ⌝ }
 {
     lay::singles(t.head.states, blocks);
     lay::groups(t, blocks);
     lay::dichotomies(t, blocks)
 }
 
-// A card for each requirement of a listing, numbered from 0 in 01's order: pairs, groups, dichotomies. The answer is how many
-// there are; what stands behind them is left as it was.
-pub fn draw(t: Listing, cards: &mut [u32]) -> usize
-    requires { ⌜ (fair t ≡ true) × (4400 ≤ length (now cards)) ⌝ }
-    ensures { λ r. ⌜ Pile (now (cards .exit)) r (cardsOf t) × (drop r (now (cards .exit)) ≡ drop r (now (cards .entry))) ⌝ }
+// A card for each requirement of n states, of so many rows and of d dichotomies, numbered from 0 in 01's order: pairs, groups,
+// dichotomies. The groups are read in the table of blocks. The answer is how many cards there are.
+fn draw(n: usize, rows: usize, d: usize, blocks: &[u64], cards: &mut [u32]) -> usize
+    requires { ⌜ (n ≤ 32) × (rows ≤ 128) × (d ≤ 64) × (320 ≤ length (now blocks)) × Room (now cards) 0 (allCards n (groupsIn (now blocks) rows) d) ⌝ }
+    ensures { λ r. ⌜ Dealt (now (cards .entry)) 0 (allCards n (groupsIn (now (blocks .entry)) rows) d) (now (cards .exit)) r ⌝ }
 {
-    let pairs = deal::pairs(t.head.states, cards);
-    let asked = deal::groups(t, pairs, cards);
-    deal::dichotomies(t.dichotomies, asked, cards)
+    let pairs = deal::pairs(n, cards);
+    let asked = deal::groups(n, &blocks[64..64 + rows], pairs, cards);
+    deal::dichotomies(d, asked, cards)
+}
+
+// What comes of a listing: nothing where the encoder does not take it, or so many cards.
+pub enum Hand {
+    Unfair,
+    Cards(usize),
+}
+
+// The table of a listing's blocks, and over it a card for each requirement, in 01's order. What is none of their places is left
+// as it came; so are both arrays whole, of a listing that is not fair.
+pub fn deal_out(t: Listing, blocks: &mut [u64; 320], cards: &mut [u32; 4400]) -> Hand
+    ensures { λ r. ⌜ (r, now (blocks .exit), now (cards .exit)) ≡ dealtOut t (now (blocks .entry)) (now (cards .entry)) ⌝ }
+{
+    if !is_fair(t) {
+        return Hand::Unfair;
+    }
+    lay_blocks(t, blocks);
+    let asked = draw(t.head.states, t.rows, t.dichotomies, blocks, cards);
+    Hand::Cards(asked)
 }

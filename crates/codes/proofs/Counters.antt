@@ -1,8 +1,8 @@
 -- The passes and the looks of every code fit a counter: a bit takes at most 2^21 passes and 2^44 looks.
-use mathlib.Core.Path.{_≡_, refl, sym, subst}
+use mathlib.Core.Path.{_≡_, subst}
 use mathlib.Core.Bool.{Bool, true, false}
 use mathlib.Core.List.{List, [], _∷_}
-use Prim.Native.Nat.{ℕ, zero, suc, _+_, _*_, _^_, _≤_, _<_}
+use Prim.Native.Nat.{ℕ, zero, suc, _*_, _^_, _≤_}
 use native.Mathlib.Nat.{suc-mul, mul-le-mul}
 use native.Mathlib.Omega.{arith}
 use lib.Dec.{eqb}
@@ -11,7 +11,7 @@ use Rattle.rules.specs.OneBit.{Bit, newBit, passes as passesOf}
 use Rattle.rules.specs.Code.{Code, Coding, coded, uncoded, joined, build, unmetBy}
 use Rattle.rules.specs.declared.Requirement.{Requirement}
 use Rattle.rules.specs.declared.Refusal.the-variants.{Stalled}
-use Rattle.passes.proofs.Ready.{Ready, ready-left}
+use Rattle.shares.proofs.Ready.{Ready, ready-left}
 use Rattle.passes.proofs.AllPasses.{Few, bit-few}
 
 pub record FewIn (k : ℕ) (c : Code) : Type 0 where

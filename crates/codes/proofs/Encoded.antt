@@ -1,26 +1,27 @@
 -- A fair listing is encoded: its cards begin a run of bits, and what the run comes to is 01's coding.
 use mathlib.Core.Path.{_≡_, refl, sym, ap, ap₂, _∙_, subst}
 use mathlib.Core.Bool.{Bool, true, false, cond, not, _&&_, true≢false}
-use mathlib.Core.List.{List, [], _∷_, _++_, map}
-use Prim.Native.Nat.{ℕ, zero, suc, _+_, _-_, _≤_, _<_}
+use mathlib.Core.List.{List}
+use Prim.Native.Nat.{ℕ, zero, suc, _-_, _≤_}
 use native.Mathlib.Omega.{arith}
 use lib.Dec.{eqb}
-use lib.ListN.{length, getD, take, drop, replicate, length-take, length-replicate}
+use lib.ListN.{length, drop, replicate, length-replicate}
 use Rattle.rules.specs.Limits.{most-bits}
 use Rattle.rules.specs.Requirements.{requirements}
-use Rattle.rules.specs.Code.{Code, Coding, coded, uncoded, build, coding, wideEnough, unmet, unmetFrom}
+use Rattle.rules.specs.Code.{Coding, coded, uncoded, build, coding, wideEnough, unmet, unmetFrom}
 use Rattle.rules.specs.declared.Requirement.{Requirement}
 use Rattle.rules.specs.declared.Listing.{Listing}
 use Rattle.rules.specs.declared.Encoding.{Encoding}
 use Rattle.rules.specs.declared.Verdict.{Verdict}
-use Rattle.rules.specs.declared.Refusal.the-variants.{TooWide, Stalled}
-use Rattle.passes.specs.Moves.{numberOf, drawn}
-use Rattle.passes.proofs.Ready.{Ready}
+use Rattle.rules.specs.declared.Refusal.the-variants.{Limit, TooWide, Stalled}
+use Rattle.shares.specs.Moves.{drawn}
+use Rattle.shares.proofs.Ready.{Ready}
 use Rattle.cards.specs.Fair.{fair}
-use Rattle.cards.specs.Cards.{Laid, Pile, cardsOf, numbered}
+use Rattle.cards.specs.Cards.{Laid, cardsOf, numbered}
 use Rattle.cards.proofs.Limits.{fair-grants}
+use Rattle.cards.proofs.Dealing.{numbered-length}
 use Rattle.cards.proofs.FairListings.{few-cards, few-requirements, good-requirements, as-many-cards, drawn-requirements, card-number}
-use Rattle.codes.specs.Encode.{most-asked, no-bit, padded, metFirst, noEncoding, encodedAs}
+use Rattle.codes.specs.Encode.{most-asked, no-bit, noEncoding, encodedAs, encoded}
 use Rattle.codes.specs.Build.{Begun, Done, Outcome}
 
 drop-replicate : (k w v : ℕ) → drop k (replicate w v) ≡ replicate (w - k) v
@@ -39,24 +40,27 @@ module _ (t : Listing) (f : fair t ≡ true) where
       go true = omega arith
       go false = fair-grants t f .limits .few-bits
 
-  module _ (blocks cards : List ℕ) (asked : ℕ) (l : Laid t blocks) (p : Pile cards asked (cardsOf t)) where
-    pub pile-shows : drawn blocks (take asked cards) ≡ requirements t
-    pile-shows = ap (drawn blocks) (p .dealt) ∙ drawn-requirements t f blocks l
+  module _ (blocks cards : List ℕ) (l : Laid t blocks) (p : cards ≡ numbered 0 (cardsOf t)) where
+    pub cards-show : drawn blocks cards ≡ requirements t
+    cards-show = ap (drawn blocks) p ∙ drawn-requirements t f blocks l
 
-    pub as-many-asked : asked ≡ length (requirements t)
-    as-many-asked = p .count ∙ as-many-cards t f
+    as-many : length cards ≡ length (cardsOf t)
+    as-many = ap length p ∙ numbered-length 0 (cardsOf t)
+
+    pub as-many-asked : length cards ≡ length (requirements t)
+    as-many-asked = as-many ∙ as-many-cards t f
 
     pub begun : (m : ℕ) (by : List ℕ) → m ≡ most → by ≡ replicate most-asked no-bit
-        → Begun blocks (t .head .states) m (take asked cards) by (replicate most-bits 0)
+        → Begun blocks (t .head .states) m cards by (replicate most-bits 0)
     begun m by em eb = record {
-      ready = subst (Ready (t .head .states)) (sym pile-shows) record {
+      ready = subst (Ready (t .head .states)) (sym cards-show) record {
         some = fair-grants t f .limits .some-states;
         fits = omega (arith, fair-grants t f .limits .few-states);
         few = omega (arith, few-requirements t f);
         good = good-requirements t f;
       };
-      few = omega (arith, length-take asked cards, p .count, few-cards t f);
-      numbers = λ i h. rw (p .dealt) (card-number t f i (omega (arith, length-take asked cards, p .count)));
+      few = omega (arith, as-many, few-cards t f);
+      numbers = λ i h. rw p (card-number t f i (omega (arith, as-many)));
       width = rw em most-few;
       room = length-replicate {A = ℕ} most-bits 0;
       blank = eb;
@@ -110,6 +114,17 @@ module _ (t : Listing) (f : fair t ≡ true) where
             looks = looks;
           } (encodedAs t (coded (d .code)))
           whole = rw (d .wide, d .shown, drop-replicate (length (d .code .bits)) most-bits 0, d .noted, d .took, d .looked, k, e) refl
+
+-- ---- a listing is fair, or it is not
+
+module _ (t : Listing) where
+  pub encoded-fair : fair t ≡ true → encodedAs t (coding t) ≡ encoded t
+  unfolding encoded
+  encoded-fair e = sym (ap (λ (b : Bool). cond b (encodedAs t (coding t)) (noEncoding (Verdict.Refused Limit 0))) e)
+
+  pub encoded-unfair : fair t ≡ false → noEncoding (Verdict.Refused Limit 0) ≡ encoded t
+  unfolding encoded
+  encoded-unfair e = sym (ap (λ (b : Bool). cond b (encodedAs t (coding t)) (noEncoding (Verdict.Refused Limit 0))) e)
 
 -- ---- which of the two a run came to
 

@@ -1,15 +1,15 @@
 -- The next bit, as code builds it, is 01's.
-use mathlib.Core.Path.{_≡_, refl, sym, ap, ap₂, _∙_}
+use mathlib.Core.Path.{_≡_, refl, ap, ap₂, _∙_}
 use mathlib.Core.List.{List, [], _∷_}
-use Prim.Native.Nat.{ℕ, zero, suc, _≤_, _<_, min}
+use Prim.Native.Nat.{ℕ, _<_, min}
 use native.Mathlib.Omega.{arith}
 use lib.ListN.{length, getD}
-use Rattle.rules.specs.OneBit.{Bit, start, passes, complemented, newBit}
+use Rattle.rules.specs.OneBit.{start, passes, complemented, newBit}
 use Rattle.rules.specs.declared.Requirement.{Requirement}
-use Rattle.passes.specs.Moves.{secondOf, drawn}
+use Rattle.shares.specs.Moves.{secondOf, drawn}
 use Rattle.passes.specs.Pass.{builtBy}
 use Rattle.passes.specs.declared.Built.{Built}
-use Rattle.passes.proofs.Ready.{Ready}
+use Rattle.shares.proofs.Ready.{Ready}
 use Rattle.passes.proofs.AllPasses.{Same, built-same}
 
 -- a bit starts from the second block of the first live card

@@ -1,26 +1,26 @@
 -- A run of bits on its way: the cards that are live, the notes, and that the rest of the rule from here gives the whole code.
 use mathlib.Core.Path.{_≡_, refl, sym, ap, ap₂, _∙_, subst}
 use mathlib.Core.List.{List, [], _∷_, _++_, append-assoc}
-use Prim.Native.Nat.{ℕ, zero, suc, _+_, _-_, _*_, _^_, _≤_, _<_}
-use native.Mathlib.Nat.{suc-mul, mul-le-mul, zero-add}
+use Prim.Native.Nat.{ℕ, suc, _+_, _-_, _*_, _^_, _≤_, _<_}
+use native.Mathlib.Nat.{mul-le-mul, zero-add}
 use native.Mathlib.Numerals.{add-one}
 use native.Mathlib.Omega.{arith}
-use lib.ListN.{length, getD, take, drop, set, replicate, length-map, length-take, length-append, length-set, length-drop, length-replicate, take-append-drop}
-use lib.Seq.{drop-drop, take-append-seam, take-suc-set, drop-set-lt, take-length, take-append-le, length-take-le}
+use lib.ListN.{length, take, drop, set, length-map, length-take, length-append, length-set, length-drop, length-replicate, take-append-drop}
+use lib.Seq.{drop-drop, take-append-seam, take-suc-set, drop-set-lt, take-length, length-take-le}
 use Rattle.rules.specs.Limits.{most-bits}
-use Rattle.rules.specs.OneBit.{Bit, newBit, passes as passesOf}
-use Rattle.rules.specs.Code.{Code, Coding, coded, uncoded, build, unmetBy, unmetFrom}
+use Rattle.rules.specs.OneBit.{newBit, passes as passesOf}
+use Rattle.rules.specs.Code.{Coding, coded, uncoded, build, unmetBy}
 use Rattle.rules.specs.declared.Requirement.{Requirement}
 use Rattle.rules.specs.declared.Refusal.the-variants.{Stalled}
-use Rattle.rules.proofs.Good.{AllGood, start-lt}
+use Rattle.rules.proofs.Good.{start-lt}
 use Rattle.rules.proofs.Complement.{new-bit-lt}
-use Rattle.passes.specs.Moves.{numberOf, requirementOf, drawn}
-use Rattle.passes.proofs.Ready.{Ready}
+use Rattle.shares.specs.Moves.{requirementOf, drawn}
+use Rattle.shares.proofs.Ready.{Ready}
 use Rattle.passes.proofs.AllPasses.{Few, bit-few}
 use Rattle.codes.specs.Sift.{liveCards, sifted, noted}
-use Rattle.codes.specs.Encode.{most-asked, no-bit, padded, metFirst}
-use Rattle.codes.specs.Build.{AddedBit, Begun, Done, Outcome}
-use Rattle.codes.proofs.Live.{leftOf, left-all, left-drawn, left-count, left-good, left-next, live-count, live-drawn}
+use Rattle.codes.specs.Encode.{most-asked, no-bit}
+use Rattle.codes.specs.Build.{AddedBit, Begun, Done}
+use Rattle.codes.proofs.Live.{leftOf, left-all, left-count, left-good, left-next, live-count, live-drawn}
 use Rattle.codes.proofs.Notes.{Shown, shown-none, shown-next, shown-all, noted-length}
 use Rattle.codes.proofs.Building.{joinedTo, build-last, build-done, build-more, build-stalled}
 

@@ -7,25 +7,15 @@ ghost use lib.Dec.{eqb};
 ghost use Rattle.rules.specs.Limits.{most-bits};
 ghost use Rattle.rules.specs.Code.{coding};
 ghost use Rattle.cards.specs.Fair.{fair};
-ghost use Rattle.sets.specs.Sets.{everyone};
+ghost use Rattle.cards.specs.Cards.{Laid, cardsOf, numbered};
 ghost use Rattle.rules.specs.OneBit.{complemented};
-ghost use Rattle.passes.specs.Moves.{drawn};
-ghost use Rattle.passes.proofs.Ready.{Ready};
+ghost use Rattle.shares.specs.Moves.{drawn};
+ghost use Rattle.shares.proofs.Ready.{Ready};
 ghost use Rattle.codes.specs.Encode.{metBy, noEncoding, encodedAs, encoded};
 ghost use Rattle.codes.specs.Build.{AddedBit, Begun, Outcome};
 ghost use Rattle.rules.specs.declared.Verdict.{Verdict};
 
 mod sift;
-
-// The set of all states below n; of more than 64 states the first 64.
-fn all_below(n: usize) -> u64
-    ensures { λ r. ⌜ r ≡ everyone (min n 64) ⌝ }
-{
-    if n < 64 {
-        return (1 << n) - 1;
-    }
-    18446744073709551615
-}
 
 // A bit of n states, complemented if state 0 has value 1; of more than 64 states the first 64.
 fn complement(n: usize, b: u64) -> u64
@@ -34,7 +24,7 @@ fn complement(n: usize, b: u64) -> u64
     if !sets::member(b, 0) {
         return b;
     }
-    let all = all_below(n);
+    let all = sets::everyone_of(n);
     if all < b {
         return 0;
     }
@@ -70,7 +60,7 @@ fn add_bit(blocks: &[u64], cards: &mut [u32], by: &mut [u8], n: usize, k: u8) ->
     requires { ⌜ Ready n (drawn (now blocks) (now cards)) × (0 < length (now cards)) ⌝ }
     ensures { λ r. ⌜ AddedBit (now (blocks .entry)) n k (now (cards .entry)) (now (by .entry)) (r .bit) (r .left) (r .passes) (r .looks) (now (cards .exit)) (now (by .exit)) ⌝ }
 {
-    let start = passes::second_of(blocks, cards[0]);
+    let start = shares::second_of(blocks, cards[0]);
     let built = passes::build_bit(blocks, cards, n, start);
     let b = complement(n, built.bit);
     let left = sift::sift(blocks, b, k, cards, by);
@@ -196,27 +186,17 @@ fn falls_short(width: usize, live: usize) -> bool
     false
 }
 
-// The code of a fair listing.
-fn encode_fair(t: rules::Listing) -> rules::Encoding
-    requires { ⌜ fair t ≡ true ⌝ }
+// The code of a fair listing, whose blocks are laid and whose cards are dealt.
+fn encode_fair(t: rules::Listing, blocks: &[u64], cards: &mut [u32]) -> rules::Encoding
+    requires { ⌜ (fair t ≡ true) × Laid t (now blocks) × (now cards ≡ numbered 0 (cardsOf t)) ⌝ }
     ensures { λ r. ⌜ r ≡ encodedAs t (coding t) ⌝ }
 {
-    let mut blocks = no_blocks();
-    cards::lay_blocks(t, &mut blocks);
-    let mut pile = no_cards();
-    let asked = cards::draw(t, &mut pile);
+    let asked = cards.len();
     let mut by = no_notes();
     let mut bits = [0u64; 32];
     let width = t.head.width;
     let most = most_of(width);
-    let c = build_bits(
-        &blocks,
-        &mut pile[..asked],
-        &mut by,
-        &mut bits,
-        t.head.states,
-        most,
-    );
+    let c = build_bits(blocks, cards, &mut by, &mut bits, t.head.states, most);
     if c.stalled {
         return uncoded_as(rules::Refusal::Stalled);
     }
@@ -238,8 +218,10 @@ fn encode_fair(t: rules::Listing) -> rules::Encoding
 pub fn encode(t: rules::Listing) -> rules::Encoding
     ensures { λ r. ⌜ r ≡ encoded t ⌝ }
 {
-    if cards::is_fair(t) {
-        return encode_fair(t);
+    let mut blocks = no_blocks();
+    let mut pile = no_cards();
+    match cards::deal_out(t, &mut blocks, &mut pile) {
+        cards::Hand::Unfair => uncoded_as(rules::Refusal::Limit),
+        cards::Hand::Cards(asked) => encode_fair(t, &blocks, &mut pile[..asked]),
     }
-    uncoded_as(rules::Refusal::Limit)
 }

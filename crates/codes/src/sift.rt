@@ -2,16 +2,16 @@
 ghost use mathlib.Core.Path.{_≡_};
 ghost use Prim.Native.Nat.{_<_, _≤_};
 ghost use lib.ListN.{length, getD, set};
-ghost use Rattle.passes.specs.Moves.{numberOf};
+ghost use Rattle.shares.specs.Moves.{numberOf};
 ghost use Rattle.codes.specs.Sift.{metCard, liveCards, sifted, noted, notedCard, liveBehind, movedCard};
 
 // Whether the bit b meets the requirement of a card.
 fn met_card(blocks: &[u64], card: u32, b: u64) -> bool
     ensures { λ r. ⌜ r ≡ metCard (now (blocks .entry)) b card ⌝ }
 {
-    let f = passes::first_of(blocks, card);
-    let g = passes::second_of(blocks, card);
-    passes::met_at(f, g, b)
+    let f = shares::first_of(blocks, card);
+    let g = shares::second_of(blocks, card);
+    shares::met_at(f, g, b)
 }
 
 // Bit number k noted for the requirement of a card, if there is a place for it.

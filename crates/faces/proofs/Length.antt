@@ -1,12 +1,11 @@
 -- How long a cover can be, within 01's limits: what a lent buffer has to hold.
-use mathlib.Core.Path.{_≡_, refl, sym, ap, _∙_}
-use mathlib.Core.List.{List, [], _∷_, _++_, map}
-use Prim.Native.Nat.{ℕ, zero, suc, _+_, _*_, _^_, _≤_, _<_}
+use mathlib.Core.Path.{_≡_, refl, ap, _∙_}
+use mathlib.Core.List.{List, [], _∷_}
+use Prim.Native.Nat.{ℕ, zero, suc, _+_, _*_, _≤_, _<_}
 use native.Mathlib.Omega.{arith}
 use lib.ListN.{length, length-append, length-map}
 use Rattle.sets.specs.Sets.{statesFrom}
-use Rattle.rules.specs.Limits.{most-inputs, most-outputs, most-bits, most-rows}
-use Rattle.rules.specs.Text.{bytes, decimal}
+use Rattle.rules.specs.Limits.{most-bits, most-rows}
 use Rattle.rules.specs.Listing.{rowsOf}
 use Rattle.rules.specs.Report.{joinedLines}
 use Rattle.rules.specs.Cover.{faceAt, nextCode, cover}

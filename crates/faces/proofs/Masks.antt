@@ -1,7 +1,7 @@
 -- A bit's value on a whole group, by masks, and so the face's characters. Over any width.
 use mathlib.Core.Path.{_≡_, refl, sym, ap, ap₂, _∙_}
-use mathlib.Core.Bool.{Bool, true, false, _||_, not, cond}
-use Prim.Native.Nat.{ℕ, zero, suc, _+_, _-_, _*_, _%_, _^_, _≤_, _<_, min}
+use mathlib.Core.Bool.{Bool, true, false, _||_, cond}
+use Prim.Native.Nat.{ℕ, zero, suc, _*_, _^_, _≤_, _<_, min}
 use native.Mathlib.Nat.{zero-mul, one-mul, mod-eq-of-lt, lt-of-lt-of-le}
 use native.Mathlib.Omega.{arith}
 use lib.Dec.{eqb}
@@ -14,6 +14,7 @@ use Rattle.sets.proofs.Every.{every-at, at-every, every-same}
 use Rattle.rules.specs.Requirements.{wholly}
 use Rattle.rules.specs.Text.{nought, one, dash}
 use Rattle.rules.specs.Cover.{faceAt}
+use Rattle.faces.specs.Faces.{valueAt}
 
 -- two masks are equal where they have the same members
 every-mask : (n a c : ℕ) → a < 2 ^ n → c < 2 ^ n → every n (λ s. eqb (has a s) (has c s)) ≡ eqb a c
@@ -82,26 +83,10 @@ wholly-below n b v g =
 pub below-wide : (n g : ℕ) → g < 2 ^ 64 → 64 ≤ n → g ≡ bitAnd g (everyone n)
 below-wide n g p h = sym (and-mask g n ∙ mod-eq-of-lt (lt-of-lt-of-le p (pow-mono h)))
 
--- ---- the face's character, by the group's members below n
+-- ---- the face's character is the value of the group's members below n
 
-module _ (n g b : ℕ) {m : ℕ} (e : m ≡ bitAnd g (everyone n)) where
-  small : m < 2 ^ n
-  small = rw e (mask-lt g n)
-
-  zeros : wholly n b 0 g ≡ eqb (bitAnd b m) 0
-  zeros = wholly-below n b 0 g ∙ rw (← e) (wholly-zero n b m small)
-
-  ones : wholly n b 1 g ≡ eqb (bitAnd b m) m
-  ones = wholly-below n b 1 g ∙ rw (← e) (wholly-one n b m small)
-
-  pub face-nought : bitAnd b m ≡ 0 → nought ≡ faceAt n g b
-  unfolding faceAt
-  face-nought h = rw (zeros, eq-eqb (bitAnd b m) 0 h)
-
-  pub face-one : (bitAnd b m ≡ 0 → ⊥) → bitAnd b m ≡ m → one ≡ faceAt n g b
-  unfolding faceAt
-  face-one h k = rw (zeros, ne-eqb (bitAnd b m) 0 h, ones, eq-eqb (bitAnd b m) m k)
-
-  pub face-dash : (bitAnd b m ≡ 0 → ⊥) → (bitAnd b m ≡ m → ⊥) → dash ≡ faceAt n g b
-  unfolding faceAt
-  face-dash h k = rw (zeros, ne-eqb (bitAnd b m) 0 h, ones, ne-eqb (bitAnd b m) m k)
+pub face-value : (n g b : ℕ) → valueAt (bitAnd g (everyone n)) dash b ≡ faceAt n g b
+unfolding valueAt faceAt
+face-value n g b =
+    let m : ℕ = bitAnd g (everyone n) in
+    sym (ap₂ (λ (x y : Bool). cond x nought (cond y one dash)) (wholly-below n b 0 g ∙ wholly-zero n b m (mask-lt g n)) (wholly-below n b 1 g ∙ wholly-one n b m (mask-lt g n)))

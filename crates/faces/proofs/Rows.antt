@@ -1,25 +1,28 @@
 -- The cover's pieces, one character or one row more at the end, as they are written.
-use mathlib.Core.Path.{_≡_, refl, sym, ap, _∙_}
+use mathlib.Core.Path.{_≡_, refl, ap, ap₂, _∙_}
 use mathlib.Core.Bool.{Bool, true, false, not, cond}
 use mathlib.Core.List.{List, [], _∷_, _++_, map, map-append, append-assoc}
-use Prim.Native.Nat.{ℕ, _+_, _≤_, _<_, min}
+use Prim.Native.Nat.{ℕ, _+_, _<_, min}
 use native.Mathlib.Omega.{arith}
-use lib.Dec.{eqb}
+use lib.Dec.{leb, eqb}
 use lib.Bits.{bitAnd}
 use lib.ListN.{length, take, getD, length-take}
-use borrow.Author.Tests.{eq-eqb, ne-eqb}
-use Rattle.sets.specs.Sets.{has, statesFrom}
+use borrow.Author.Tests.{eq-eqb, ne-eqb, leb-true, le-leb}
+use Rattle.sets.proofs.Every.{and-first, and-second}
+use Rattle.rules.specs.Limits.{most-inputs, most-outputs}
+use Rattle.sets.specs.Sets.{has, statesFrom, everyone}
 use Rattle.rules.specs.Text.{bytes, digit, nought, one, dash, space, lf, decimal}
 use Rattle.rules.specs.Listing.{rowsOf}
-use Rattle.rules.specs.Report.{digits, joinedLines}
-use Rattle.rules.specs.Cover.{faceAt, face, nextCode, coverRow, cover}
+use Rattle.rules.specs.Report.{joinedLines}
+use Rattle.rules.specs.Cover.{coverRow, cover}
 use Rattle.rules.specs.declared.Pattern.{Pattern}
 use Rattle.rules.specs.declared.Head.{Head}
 use Rattle.rules.specs.declared.Row.{Row}
 use Rattle.rules.specs.declared.Listing.{Listing}
 use Rattle.pen.specs.Pen.{digitsText}
 use Rattle.pen.proofs.Growing.{bytes-one, bytes-of-one, take-one, take-most, joined-more}
-use Rattle.faces.specs.Faces.{patternAt, patternText, faceText, nextAt, nextText, rowText, rowTexts, countsText}
+use Rattle.faces.specs.Faces.{patternAt, patternText, valueAt, valuesText, faceText, nextText, rowText, rowTexts, countsText, bounded, coverText, Bounded}
+use Rattle.faces.proofs.Masks.{face-value}
 
 -- ---- a pattern
 
@@ -39,36 +42,49 @@ pub pattern-one : (p : Pattern) (j : ℕ) {b : ℕ} → b ≡ patternAt p j → 
 unfolding patternText
 pattern-one p j e = bytes-one (patternAt p) j e
 
--- ---- a face
+-- ---- a set's values in the bits
 
-pub face-none : (n g : ℕ) → faceText n [] g ≡ []
-unfolding faceText
-face-none n g = refl
+pub value-nought : (g mixed b : ℕ) → bitAnd b g ≡ 0 → nought ≡ valueAt g mixed b
+unfolding valueAt
+value-nought g mixed b e = rw (eq-eqb (bitAnd b g) 0 e)
 
-pub face-more : (n g : ℕ) (bits : List ℕ) (k : ℕ) {b : ℕ} → k < length bits → b ≡ faceAt n g (getD bits k 0) → faceText n (take (k + 1) bits) g ≡ faceText n (take k bits) g ++ (b ∷ [])
-unfolding faceText
-face-more n g bits k h e = bytes-of-one (faceAt n g) bits k 0 h e
+pub value-one : (g mixed b : ℕ) → (bitAnd b g ≡ 0 → ⊥) → bitAnd b g ≡ g → one ≡ valueAt g mixed b
+unfolding valueAt
+value-one g mixed b e f = rw (ne-eqb (bitAnd b g) 0 e, eq-eqb (bitAnd b g) g f)
 
--- ---- the next state's code
+pub value-mixed : (g mixed b : ℕ) → (bitAnd b g ≡ 0 → ⊥) → (bitAnd b g ≡ g → ⊥) → mixed ≡ valueAt g mixed b
+unfolding valueAt
+value-mixed g mixed b e f = rw (ne-eqb (bitAnd b g) 0 e, ne-eqb (bitAnd b g) g f)
 
-pub next-nought : (next b : ℕ) → bitAnd b next ≡ 0 → nought ≡ nextAt next b
-unfolding nextAt
-next-nought next b e = rw (eq-eqb (bitAnd b next) 0 e)
+pub values-none : (g mixed : ℕ) → valuesText [] g mixed ≡ []
+unfolding valuesText
+values-none g mixed = refl
 
-pub next-one : (next b : ℕ) → (bitAnd b next ≡ 0 → ⊥) → one ≡ nextAt next b
-unfolding nextAt
-next-one next b e = rw (ne-eqb (bitAnd b next) 0 e)
+pub values-more : (g mixed : ℕ) (bits : List ℕ) (k : ℕ) {b : ℕ} → k < length bits → b ≡ valueAt g mixed (getD bits k 0)
+    → valuesText (take (k + 1) bits) g mixed ≡ valuesText (take k bits) g mixed ++ (b ∷ [])
+unfolding valuesText
+values-more g mixed bits k h e = bytes-of-one (valueAt g mixed) bits k 0 h e
 
-pub next-none : (next : ℕ) → nextText [] next ≡ []
-unfolding nextText
-next-none next = refl
+-- the group's are its face
+pub values-face : (n g : ℕ) {m : ℕ} → m ≡ bitAnd g (everyone n) → (bits : List ℕ) → valuesText bits m dash ≡ faceText n bits g
+unfolding valuesText faceText
+values-face n g e [] = refl
+values-face n g {m} e (b ∷ bits) = ap₂ _∷_ (ap (λ (k : ℕ). valueAt k dash b) e ∙ face-value n g b) (values-face n g e bits)
 
-pub next-more : (next : ℕ) (bits : List ℕ) (k : ℕ) {b : ℕ} → k < length bits → b ≡ nextAt next (getD bits k 0) → nextText (take (k + 1) bits) next ≡ nextText (take k bits) next ++ (b ∷ [])
-unfolding nextText nextAt
-next-more next bits k h e =
-    ap digits (bytes-of-one (λ b. digit (not (eqb (bitAnd b next) 0))) bits k 0 h refl)
-    ∙ map-append (λ d. nought + d) (nextCode (take k bits) next) (digit (not (eqb (bitAnd (getD bits k 0) next) 0)) ∷ [])
-    ∙ rw (sym e)
+-- the next state's are its code
+value-next : (next b : ℕ) → valueAt next one b ≡ nought + digit (not (eqb (bitAnd b next) 0))
+unfolding valueAt
+value-next next b = go (eqb (bitAnd b next) 0) (eqb (bitAnd b next) next)
+  where
+    go : (x y : Bool) → cond x nought (cond y one one) ≡ nought + digit (not x)
+    go true y = refl
+    go false true = refl
+    go false false = refl
+
+pub values-next : (next : ℕ) (bits : List ℕ) → valuesText bits next one ≡ nextText bits next
+unfolding valuesText nextText
+values-next next [] = refl
+values-next next (b ∷ bits) = ap₂ _∷_ (value-next next b) (values-next next bits)
 
 -- ---- a row, and rows
 
@@ -115,3 +131,24 @@ cover-parts t bits width {w} {n} hb ht hw hn =
     let tb : take w bits ≡ take width bits = rw hw (take-most width 32 bits hb) in
     let tt : take n (t .table) ≡ rowsOf t = rw hn (take-most (t .rows) 128 (t .table) ht) in
     rw (tb, tt, ← lb, ← lt) (cover-text t (take width bits))
+
+-- ---- within the limits, and beyond them
+
+pub bounded-head : (h : Head) → bounded (h .inputs) (h .outputs) ≡ true → Bounded h
+unfolding bounded
+bounded-head h e = record {
+  inputs = leb-true (h .inputs) most-inputs (and-first (leb (h .inputs) most-inputs) (leb (h .outputs) most-outputs) e);
+  outputs = leb-true (h .outputs) most-outputs (and-second (leb (h .inputs) most-inputs) (leb (h .outputs) most-outputs) e);
+}
+
+pub cover-bounded : (t : Listing) (bits : List ℕ) → Bounded (t .head) → coverText t bits ≡ cover t bits
+unfolding coverText bounded
+cover-bounded t bits w = rw (le-leb (t .head .inputs) most-inputs (w .inputs), le-leb (t .head .outputs) most-outputs (w .outputs))
+
+pub cover-within : (t : Listing) (bits : List ℕ) → bounded (t .head .inputs) (t .head .outputs) ≡ true → cover t bits ≡ coverText t bits
+unfolding coverText
+cover-within t bits e = rw e
+
+pub cover-beyond : (t : Listing) (bits : List ℕ) → bounded (t .head .inputs) (t .head .outputs) ≡ false → coverText t bits ≡ []
+unfolding coverText
+cover-beyond t bits e = rw e

@@ -1,17 +1,18 @@
 -- The cover's pieces as they are written, and what its writer asks of a listing.
-use mathlib.Core.Bool.{Bool, true, false, not, cond}
+use mathlib.Core.Bool.{Bool, _&&_, cond}
 use mathlib.Core.List.{List, [], _∷_, _++_, map}
 use Prim.Native.Nat.{ℕ, _+_, _≤_}
-use lib.Dec.{eqb}
+use lib.Dec.{leb, eqb}
 use lib.Bits.{bitAnd}
 use Rattle.sets.specs.Sets.{has, statesFrom}
 use Rattle.rules.specs.Limits.{most-inputs, most-outputs}
-use Rattle.rules.specs.Text.{bytes, digit, nought, dash, lf, decimal}
+use Rattle.rules.specs.Text.{bytes, nought, one, dash, lf, decimal}
 use Rattle.rules.specs.Report.{digits, joinedLines}
-use Rattle.rules.specs.Cover.{face, nextCode, coverRow}
+use Rattle.rules.specs.Cover.{face, nextCode, coverRow, cover}
 use Rattle.rules.specs.declared.Pattern.{Pattern}
 use Rattle.rules.specs.declared.Head.{Head}
 use Rattle.rules.specs.declared.Row.{Row}
+use Rattle.rules.specs.declared.Listing.{Listing}
 
 -- character j of a pattern
 unfoldable pub patternAt : Pattern → ℕ → ℕ
@@ -21,13 +22,18 @@ patternAt p j = cond (eqb (has (p .dashes) j) 1) dash (nought + has (p .ones) j)
 unfoldable pub patternText : Pattern → ℕ → List ℕ
 patternText p n = map (patternAt p) (statesFrom 0 n)
 
+-- a set's value in the bit b: 0 or 1 where its members all have that value, `mixed` where they differ
+unfoldable pub valueAt : ℕ → ℕ → ℕ → ℕ
+valueAt g mixed b = cond (eqb (bitAnd b g) 0) nought (cond (eqb (bitAnd b g) g) one mixed)
+
+-- and in each bit
+unfoldable pub valuesText : List ℕ → ℕ → ℕ → List ℕ
+unfolding valueAt
+valuesText bits g mixed = map (valueAt g mixed) bits
+
 -- the face of the group g of n states
 unfoldable pub faceText : ℕ → List ℕ → ℕ → List ℕ
 faceText n bits g = face n bits g
-
--- the next state's character in the bit b
-unfoldable pub nextAt : ℕ → ℕ → ℕ
-nextAt next b = nought + digit (not (eqb (bitAnd b next) 0))
 
 -- the code of the next state, zeros if the row names none
 unfoldable pub nextText : List ℕ → ℕ → List ℕ
@@ -45,7 +51,15 @@ rowTexts h bits rs = joinedLines (map (rowText h bits) rs)
 unfoldable pub countsText : ℕ → ℕ → ℕ → List ℕ
 countsText i o p = bytes ".i " ++ ((decimal i ++ (lf ∷ [])) ++ (bytes ".o " ++ ((decimal o ++ (lf ∷ [])) ++ (bytes ".p " ++ (decimal p ++ (lf ∷ []))))))
 
--- The limits on a head that the writer leans on: inputs and bits, and bits and outputs, add up to numbers of the machine. The reader of a listing shows them.
+-- The limits on a head that the writer leans on: inputs and bits, and bits and outputs, add up to numbers of the machine.
 pub record Bounded (h : Head) : Type 0 where
   pub inputs : h .inputs ≤ most-inputs
   pub outputs : h .outputs ≤ most-outputs
+
+unfoldable pub bounded : ℕ → ℕ → Bool
+bounded i o = leb i most-inputs && leb o most-outputs
+
+-- the cover, or no text beyond those limits
+unfoldable pub coverText : Listing → List ℕ → List ℕ
+unfolding bounded cover
+coverText t bits = cond (bounded (t .head .inputs) (t .head .outputs)) (cover t bits) []

@@ -3,9 +3,9 @@ ghost use mathlib.Core.Path.{_≡_};
 ghost use lib.Bits.{bitAnd};
 ghost use lib.ListN.{take};
 ghost use Rattle.sets.specs.Sets.{everyone};
-ghost use Rattle.rules.specs.Cover.{faceAt, coverRow, cover};
+ghost use Rattle.rules.specs.Cover.{cover};
 ghost use Rattle.pen.specs.Pen.{Wrote};
-ghost use Rattle.faces.specs.Faces.{patternAt, patternText, faceText, nextAt, nextText, rowText, rowTexts, countsText, Bounded};
+ghost use Rattle.faces.specs.Faces.{patternAt, patternText, valueAt, valuesText, faceText, nextText, rowText, rowTexts, countsText, bounded, coverText, Bounded};
 use rules::Head;
 use rules::Listing;
 use rules::Pattern;
@@ -22,7 +22,7 @@ fn pattern_byte(p: Pattern, j: usize) -> u8
 }
 
 // The first n characters of a pattern.
-pub fn put_pattern(out: &mut [u8], at: usize, p: Pattern, n: usize) -> usize
+fn put_pattern(out: &mut [u8], at: usize, p: Pattern, n: usize) -> usize
     ensures { λ r. ⌜ Wrote (now (out .entry)) at (patternText p n) r (now (out .exit)) ⌝ }
 {
     let mut j: usize = 0;
@@ -44,56 +44,48 @@ fn below(n: usize, g: u64) -> u64
     g & ((1 << n) - 1)
 }
 
-// The face of the group g of n states, at the bit b: 0 or 1 where all the group's codes agree, a dash elsewhere.
-fn face_byte(n: usize, g: u64, b: u64) -> u8
-    ensures { λ r. ⌜ r ≡ faceAt n g b ⌝ }
+// A set's value in the bit b: 0 or 1 where its members all have that value, `mixed` where they differ, and 0 where it has none.
+fn value_byte(g: u64, b: u64, mixed: u8) -> u8
+    ensures { λ r. ⌜ r ≡ valueAt g mixed b ⌝ }
 {
-    let group = below(n, g);
-    if b & group == 0 {
+    if b & g == 0 {
         return 48;
     }
-    if b & group == group {
+    if b & g == g {
         return 49;
     }
-    45
+    mixed
 }
 
-pub fn put_face(out: &mut [u8], at: usize, n: usize, bits: &[u64], g: u64) -> usize
+// A set's value in each bit.
+fn put_values(out: &mut [u8], at: usize, bits: &[u64], g: u64, mixed: u8) -> usize
+    ensures { λ r. ⌜ Wrote (now (out .entry)) at (valuesText (now (bits .entry)) g mixed) r (now (out .exit)) ⌝ }
+{
+    let mut k: usize = 0;
+    let mut to = at;
+    while k < bits.len() {
+        to = pen::put_byte(out, to, value_byte(g, bits[k], mixed));
+        k += 1;
+    }
+    to
+}
+
+// The face of the group g of n states: 0 or 1 where all the group's codes agree, a dash elsewhere.
+fn put_face(out: &mut [u8], at: usize, n: usize, bits: &[u64], g: u64) -> usize
     ensures { λ r. ⌜ Wrote (now (out .entry)) at (faceText n (now (bits .entry)) g) r (now (out .exit)) ⌝ }
 {
-    let mut k: usize = 0;
-    let mut to = at;
-    while k < bits.len() {
-        to = pen::put_byte(out, to, face_byte(n, g, bits[k]));
-        k += 1;
-    }
-    to
+    put_values(out, at, bits, below(n, g), 45)
 }
 
-// The next state's value in the bit b: 1 where it has value 1 on the state named.
-fn next_byte(next: u64, b: u64) -> u8
-    ensures { λ r. ⌜ r ≡ nextAt next b ⌝ }
-{
-    if b & next == 0 {
-        return 48;
-    }
-    49
-}
-
-pub fn put_next(out: &mut [u8], at: usize, bits: &[u64], next: u64) -> usize
+// The code of the next state, zeros if the row names none: 1 in each bit that has value 1 on the state named.
+fn put_next(out: &mut [u8], at: usize, bits: &[u64], next: u64) -> usize
     ensures { λ r. ⌜ Wrote (now (out .entry)) at (nextText (now (bits .entry)) next) r (now (out .exit)) ⌝ }
 {
-    let mut k: usize = 0;
-    let mut to = at;
-    while k < bits.len() {
-        to = pen::put_byte(out, to, next_byte(next, bits[k]));
-        k += 1;
-    }
-    to
+    put_values(out, at, bits, next, 49)
 }
 
 // A row's line: the input, the face, a space, the code of the next state, the outputs; a dash of the outputs is a 0.
-pub fn put_row(out: &mut [u8], at: usize, head: Head, bits: &[u64], row: Row) -> usize
+fn put_row(out: &mut [u8], at: usize, head: Head, bits: &[u64], row: Row) -> usize
     ensures { λ r. ⌜ Wrote (now (out .entry)) at (rowText head (now (bits .entry)) row) r (now (out .exit)) ⌝ }
 {
     let input = row.input;
@@ -107,7 +99,7 @@ pub fn put_row(out: &mut [u8], at: usize, head: Head, bits: &[u64], row: Row) ->
 }
 
 // A line for each of the first rows of a table.
-pub fn put_rows(
+fn put_rows(
     out: &mut [u8],
     at: usize,
     head: Head,
@@ -140,8 +132,8 @@ fn put_counts(out: &mut [u8], at: usize, inputs: usize, outputs: usize, rows: us
     pen::put_field(out, t, rows as u64, 10)
 }
 
-// The cover of a listing, with the first `width` bits of a code, from the buffer's start.
-pub fn put_cover(out: &mut [u8], t: Listing, width: usize, bits: [u64; 32]) -> usize
+// The cover of a listing within the limits, with the first `width` bits of a code, from the buffer's start.
+fn put_bounded(out: &mut [u8], t: Listing, width: usize, bits: [u64; 32]) -> usize
     requires { ⌜ Bounded (t .head) ⌝ }
     ensures { λ r. ⌜ Wrote (now (out .entry)) 0 (cover t (take width bits)) r (now (out .exit)) ⌝ }
 {
@@ -152,4 +144,24 @@ pub fn put_cover(out: &mut [u8], t: Listing, width: usize, bits: [u64; 32]) -> u
     let p = put_counts(out, 0, head.inputs + w, w + head.outputs, n);
     let q = put_rows(out, p, head, &bits[..w], n, table);
     pen::put_bytes(out, q, b".e\n")
+}
+
+// Whether so many inputs and outputs are within 01's limits.
+fn is_bounded(inputs: usize, outputs: usize) -> bool
+    ensures { λ r. ⌜ r ≡ bounded inputs outputs ⌝ }
+{
+    if rules::MOST_INPUTS < inputs {
+        return false;
+    }
+    outputs <= rules::MOST_OUTPUTS
+}
+
+// The cover of any listing; of one with more inputs or outputs than 01 allows, as no reader gives, no text.
+pub fn put_cover(out: &mut [u8], t: Listing, width: usize, bits: [u64; 32]) -> usize
+    ensures { λ r. ⌜ Wrote (now (out .entry)) 0 (coverText t (take width bits)) r (now (out .exit)) ⌝ }
+{
+    if is_bounded(t.head.inputs, t.head.outputs) {
+        return put_bounded(out, t, width, bits);
+    }
+    0
 }

@@ -21,7 +21,7 @@ fn one_of(x: u8, a: u8, b: u8, c: u8) -> bool
 }
 
 // Whether each character of a field is one of three.
-pub fn all_of(f: &[u8], a: u8, b: u8, c: u8) -> bool
+fn all_of(f: &[u8], a: u8, b: u8, c: u8) -> bool
     ensures { λ r. ⌜ r ≡ allOf a b c (now (f .entry)) ⌝ }
 {
     let mut i = 0;

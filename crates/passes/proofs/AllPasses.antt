@@ -12,11 +12,11 @@ use Rattle.rules.specs.Looks.{looks}
 use Rattle.rules.specs.OneBit.{Bit, start, passMoves, kept, counted, passesFrom, passes}
 use Rattle.rules.specs.declared.Requirement.{Requirement}
 use Rattle.rules.proofs.Good.{AllGood, start-lt}
-use Rattle.passes.specs.Table.{level}
-use Rattle.passes.specs.Pass.{passed, passesBy, tallied, builtBy}
+use Rattle.shares.specs.Table.{level}
+use Rattle.passes.specs.Pass.{passed, passesBy, builtBy}
 use Rattle.passes.specs.declared.Passed.{Passed}
 use Rattle.passes.specs.declared.Built.{Built}
-use Rattle.passes.proofs.Ready.{Ready}
+use Rattle.shares.proofs.Ready.{Ready}
 use Rattle.passes.proofs.Highest.{same-ltb}
 use Rattle.passes.proofs.OnePass.{OnePass, pass-is, pass-looks}
 

@@ -12,8 +12,8 @@ use Rattle.rules.specs.Requirements.{metCount}
 use Rattle.rules.specs.OneBit.{rather, before, choice}
 use Rattle.rules.specs.declared.Requirement.{Requirement}
 use Rattle.passes.specs.Pass.{highest}
-use Rattle.passes.proofs.Either.{either}
-use Rattle.passes.proofs.Shows.{Shows}
+use Rattle.shares.proofs.Either.{either}
+use Rattle.shares.proofs.Shows.{Shows}
 
 -- two comparisons that say the same: the numbers of one differ as those of the other do
 pub same-ltb : (a b c d : ℕ) → a + d ≡ b + c → ltb a b ≡ ltb c d

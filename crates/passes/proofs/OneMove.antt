@@ -1,16 +1,20 @@
 -- One move of a pass, as code makes it step by step.
-use mathlib.Core.Path.{_≡_, refl, sym, ap, ap₂, _∙_, subst}
+use mathlib.Core.Path.{_≡_, sym, ap, subst}
 use mathlib.Core.List.{List}
-use Prim.Native.Nat.{ℕ, zero, suc, _+_, _-_, _≤_, _<_}
+use Prim.Native.Nat.{ℕ, suc, _+_, _-_, _≤_, _<_}
 use native.Mathlib.Omega.{arith}
 use lib.ListN.{getD}
 use Rattle.sets.specs.Sets.{flip}
 use Rattle.rules.specs.declared.Requirement.{Requirement}
-use Rattle.passes.specs.Moves.{moved, looked}
+use Rattle.shares.specs.Moves.{moved, looked}
 use Rattle.passes.specs.Pass.{Going, highest, reached, bestOf, going, goOn, goMoves}
 use Rattle.passes.proofs.Highest.{highest-lt}
 use Rattle.passes.specs.declared.Passed.{Passed}
 use Rattle.passes.specs.declared.Way.{Way}
+
+-- the state chosen is one of 64
+pub chosen-lt : (n s free : ℕ) (t : List ℕ) → n ≤ 64 → s ≡ highest free t n → s < 64
+chosen-lt n s free t h e = subst (λ (k : ℕ). k < 64) (sym e) (highest-lt 64 free t n (omega arith) h)
 
 module _ (n : ℕ) (rs : List Requirement) (w : Way) (t : List ℕ) where
   pub go-on : (s a f v l m : ℕ) (t′ : List ℕ) (p : Passed) → n ≤ 64
@@ -19,7 +23,7 @@ module _ (n : ℕ) (rs : List Requirement) (w : Way) (t : List ℕ) where
       → going (record { bit = a; free = f; level = l; best = p }) t′ ≡ goOn n rs (going w t)
   unfolding goOn
   go-on s a f v l m t′ p h es ea ef ev el em et ep =
-      let q : s < 64 = subst (λ (k : ℕ). k < 64) (sym es) (highest-lt 64 (w .free) t n (omega arith) h) in
+      let q : s < 64 = chosen-lt n s (w .free) t h es in
       let a₁ : a ≡ flip (w .bit) s = ea q in
       let f₁ : f ≡ flip (w .free) s = ef q in
       cc

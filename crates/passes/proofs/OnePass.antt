@@ -15,14 +15,14 @@ use Rattle.rules.specs.declared.Requirement.{Requirement}
 use Rattle.rules.proofs.Passes.{met-most}
 use Rattle.rules.proofs.FourLooks.{four-of-a-pass, looksEach, looks-each}
 use Rattle.rules.proofs.Good.{AllGood}
-use Rattle.passes.specs.Table.{level}
-use Rattle.passes.specs.Moves.{filled, looked}
+use Rattle.shares.specs.Table.{level}
+use Rattle.shares.specs.Moves.{filled, looked}
 use Rattle.passes.specs.Pass.{highest, Going, reached, bestOf, goOn, goMoves, setOut, passed}
 use Rattle.passes.specs.declared.Passed.{Passed}
-use Rattle.passes.proofs.Ready.{Ready}
-use Rattle.passes.proofs.Either.{either}
-use Rattle.passes.proofs.Looks.{looked-looks}
-use Rattle.passes.proofs.Shows.{Shows, shows-filled, shows-moved}
+use Rattle.shares.proofs.Ready.{Ready}
+use Rattle.shares.proofs.Either.{either}
+use Rattle.shares.proofs.Looks.{looked-looks}
+use Rattle.shares.proofs.Shows.{Shows, shows-filled, shows-moved}
 use Rattle.passes.proofs.Highest.{highest-lt, highest-choice}
 use Rattle.passes.proofs.Better.{better, better-first, better-second, better-same, better-regroup, kept-more, kept-better}
 

@@ -1,16 +1,15 @@
 -- Passes, as a loop counts them: what is counted so far, and what the passes from here on add.
 use mathlib.Core.Path.{_≡_, refl, sym, ap, ap₂, _∙_}
-use mathlib.Core.Bool.{Bool, true, false, cond}
+use mathlib.Core.Bool.{Bool, cond}
 use mathlib.Core.List.{List}
-use Prim.Native.Nat.{ℕ, zero, suc, _+_, _-_, _%_, _^_, _≤_, _<_, min}
+use Prim.Native.Nat.{ℕ, suc, _+_, _-_, _%_, _^_, _≤_, _<_, min}
 use native.Mathlib.Nat.{add-comm}
 use native.Mathlib.Omega.{arith}
-use lib.Dec.{ltb}
 use lib.ListN.{length, length-map}
 use borrow.Author.Tests.{lt-ltb, le-ltb}
 use Rattle.rules.specs.declared.Requirement.{Requirement}
-use Rattle.passes.specs.Table.{level}
-use Rattle.passes.specs.Moves.{requirementOf, drawn}
+use Rattle.shares.specs.Table.{level}
+use Rattle.shares.specs.Moves.{requirementOf, drawn}
 use Rattle.passes.specs.Pass.{passed, afterPass, passesBy, tallied, builtBy}
 use Rattle.passes.specs.declared.Passed.{Passed}
 use Rattle.passes.specs.declared.Built.{Built}

@@ -1,3 +1,2 @@
-pub mod Table
-pub mod Moves
 pub mod Pass
+pub mod Index

@@ -7,8 +7,8 @@ use lib.ListN.{length, getD, replicate}
 use Rattle.sets.specs.Sets.{has, everyone, flip}
 use Rattle.rules.specs.OneBit.{rather, counted}
 use Rattle.rules.specs.declared.Requirement.{Requirement}
-use Rattle.passes.specs.Table.{level, less}
-use Rattle.passes.specs.Moves.{filled, moved, looked}
+use Rattle.shares.specs.Table.{level, less}
+use Rattle.shares.specs.Moves.{filled, moved, looked}
 use Rattle.passes.specs.declared.Passed.{Passed}
 use Rattle.passes.specs.declared.Built.{Built}
 use Rattle.passes.specs.declared.Way.{Way}

@@ -1,3 +1,4 @@
 pub mod Laws
 pub mod Growing
 pub mod Decimal
+pub mod OneAnswer

@@ -40,7 +40,7 @@ pub fn put_bytes(out: &mut [u8], at: usize, s: &[u8]) -> usize
 }
 
 // A number in decimal: the digits before the last, and the last.
-pub fn put_number(out: &mut [u8], at: usize, v: u64) -> usize
+fn put_number(out: &mut [u8], at: usize, v: u64) -> usize
     ensures { λ r. ⌜ Wrote (now (out .entry)) at (decimal v) r (now (out .exit)) ⌝ }
 {
     if v < 10 {

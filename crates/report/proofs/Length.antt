@@ -1,9 +1,8 @@
 -- How long a report can be, within 01's limits: what a lent buffer has to hold.
-use mathlib.Core.Path.{_≡_, refl, sym, ap, _∙_}
+use mathlib.Core.Path.{_≡_, refl}
 use mathlib.Core.Bool.{Bool, true, false}
-use mathlib.Core.List.{List, [], _∷_, _++_, map}
+use mathlib.Core.List.{List, [], _∷_}
 use Prim.Native.Nat.{ℕ, zero, suc, _+_, _*_, _^_, _≤_, _<_}
-use native.Mathlib.Numerals.{add-one}
 use native.Mathlib.Omega.{arith}
 use lib.Dec.{eqb}
 use lib.ListN.{length, take, length-append, length-map, length-take}
@@ -12,7 +11,7 @@ use Rattle.rules.specs.declared.Encoding.{Encoding}
 use Rattle.rules.specs.declared.StateNumber.{StateNumber}
 use Rattle.rules.specs.declared.RequirementNumber.{RequirementNumber}
 use Rattle.rules.specs.Limits.{most-states, most-bits}
-use Rattle.rules.specs.Text.{nought, decimal, bytes}
+use Rattle.rules.specs.Text.{nought}
 use Rattle.rules.specs.Code.{codeOf}
 use Rattle.rules.specs.Report.{codeText, countLine, stateLine, unmetLine}
 use Rattle.pen.proofs.Decimal.{decimal-length}

@@ -23,7 +23,7 @@ fn put_values(out: &mut [u8], at: usize, bits: &[u64], s: StateNumber) -> usize
 }
 
 // A state's code; a code of no bits is one dash.
-pub fn put_code(out: &mut [u8], at: usize, bits: &[u64], s: StateNumber) -> usize
+fn put_code(out: &mut [u8], at: usize, bits: &[u64], s: StateNumber) -> usize
     ensures { λ r. ⌜ Wrote (now (out .entry)) at (codeText (codeOf (now (bits .entry)) (s .0))) r (now (out .exit)) ⌝ }
 {
     if bits.len() == 0 {
@@ -33,7 +33,7 @@ pub fn put_code(out: &mut [u8], at: usize, bits: &[u64], s: StateNumber) -> usiz
 }
 
 // `CT bits asked unmet passes looks`
-pub fn put_count_line(
+fn put_count_line(
     out: &mut [u8],
     at: usize,
     bits: usize,
@@ -53,7 +53,7 @@ pub fn put_count_line(
 }
 
 // `SC state code`
-pub fn put_state_line(out: &mut [u8], at: usize, bits: &[u64], s: StateNumber) -> usize
+fn put_state_line(out: &mut [u8], at: usize, bits: &[u64], s: StateNumber) -> usize
     ensures { λ r. ⌜ Wrote (now (out .entry)) at (stateLine (now (bits .entry)) s) r (now (out .exit)) ⌝ }
 {
     let p = pen::put_bytes(out, at, b"SC ");
@@ -63,7 +63,7 @@ pub fn put_state_line(out: &mut [u8], at: usize, bits: &[u64], s: StateNumber) -
 }
 
 // `UN number`
-pub fn put_unmet_line(out: &mut [u8], at: usize, number: RequirementNumber) -> usize
+fn put_unmet_line(out: &mut [u8], at: usize, number: RequirementNumber) -> usize
     ensures { λ r. ⌜ Wrote (now (out .entry)) at (unmetLine number) r (now (out .exit)) ⌝ }
 {
     let p = pen::put_bytes(out, at, b"UN ");
@@ -71,7 +71,7 @@ pub fn put_unmet_line(out: &mut [u8], at: usize, number: RequirementNumber) -> u
 }
 
 // A line for each of the first n states.
-pub fn put_state_lines(out: &mut [u8], at: usize, bits: &[u64], n: usize) -> usize
+fn put_state_lines(out: &mut [u8], at: usize, bits: &[u64], n: usize) -> usize
     ensures { λ r. ⌜ Wrote (now (out .entry)) at (stateLines (now (bits .entry)) n) r (now (out .exit)) ⌝ }
 {
     let mut i: usize = 0;
@@ -94,7 +94,7 @@ fn put_if_unmet(out: &mut [u8], at: usize, by: u8, number: RequirementNumber) ->
 }
 
 // A line for each requirement that no bit meets; requirement k is met by bit `by[k]`.
-pub fn put_unmet_lines(out: &mut [u8], at: usize, by: &[u8]) -> usize
+fn put_unmet_lines(out: &mut [u8], at: usize, by: &[u8]) -> usize
     ensures { λ r. ⌜ Wrote (now (out .entry)) at (unmetLines (unmetIn 0 (now (by .entry)))) r (now (out .exit)) ⌝ }
 {
     let mut k: usize = 0;

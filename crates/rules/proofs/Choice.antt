@@ -1,10 +1,10 @@
 -- The moves of a pass (01, "One bit"): the chosen state is free and has the greatest gain, and a pass moves every state once.
-use mathlib.Core.Path.{_≡_, refl, sym, ap, ap₂, _∙_, subst}
+use mathlib.Core.Path.{_≡_, refl, sym, ap, _∙_, subst}
 use mathlib.Core.Bool.{Bool, true, false, cond}
 use mathlib.Core.Logic.{_⊎_, inl, inr, ⊎-elim}
 use mathlib.Core.List.{List, [], _∷_}
-use Prim.Native.Nat.{ℕ, zero, suc, _+_, _-_, _≤_, _<_}
-use native.Mathlib.Nat.{le-refl, le-trans}
+use Prim.Native.Nat.{ℕ, zero, suc, _+_, _≤_, _<_}
+use native.Mathlib.Nat.{le-refl}
 use native.Mathlib.Omega.{arith}
 use native.Mathlib.Decide.{ℕ-discrete}
 use lib.Dec.{ltb}
@@ -12,7 +12,7 @@ use lib.ListN.{length}
 use borrow.Author.Tests.{ltb-true, ltb-false}
 use Rattle.sets.specs.Sets.{has, flip, everyone, total}
 use Rattle.sets.proofs.Members.{has-lt, has-all, has-flip, has-flip-other}
-use Rattle.sets.proofs.Totals.{total-same, total-change}
+use Rattle.sets.proofs.Totals.{total-change}
 use Rattle.rules.specs.Requirements.{metCount}
 use Rattle.rules.specs.OneBit.{before, choice, movesFrom, passMoves}
 use Rattle.rules.specs.declared.Requirement.{Requirement}

@@ -3,7 +3,7 @@ use mathlib.Core.Path.{_≡_, refl, sym, ap, ap₂, _∙_, subst}
 use mathlib.Core.Bool.{Bool, true, false, cond}
 use mathlib.Core.Logic.{_⊎_, inl, inr, ⊎-elim}
 use mathlib.Core.List.{List, [], _∷_}
-use Prim.Native.Nat.{ℕ, zero, suc, _+_, _-_, _≤_, _<_, _^_}
+use Prim.Native.Nat.{ℕ, zero, suc, _+_, _-_, _<_, _^_}
 use native.Mathlib.Omega.{arith}
 use native.Mathlib.Decide.{ℕ-discrete}
 use lib.Dec.{ltb, eqb}
@@ -13,7 +13,7 @@ use Rattle.sets.specs.Sets.{has, flip, everyone}
 use Rattle.sets.proofs.Members.{has-lt, has-not, has-flip, has-flip-other, flip-lt, not-lt}
 use Rattle.rules.specs.Requirements.{met, metCount}
 use Rattle.rules.specs.Looks.{looks}
-use Rattle.rules.specs.OneBit.{Bit, start, passMoves, kept, passesFrom, passes, counted, complemented, newBit}
+use Rattle.rules.specs.OneBit.{start, passMoves, kept, passesFrom, passes, counted, complemented, newBit}
 use Rattle.rules.specs.declared.Requirement.{Requirement}
 use Rattle.rules.proofs.Meeting.{Split, met-means, means-met}
 use Rattle.rules.proofs.Runs.{Below}

@@ -1,21 +1,20 @@
 -- At most four moves of a run in which no state moves twice look at a requirement (01, "Looks"); any order, any number of members.
-use mathlib.Core.Path.{_≡_, refl, sym, ap, ap₂, _∙_, subst₂}
+use mathlib.Core.Path.{_≡_, refl, ap, _∙_, subst₂}
 use mathlib.Core.Bool.{Bool, true, false, _&&_, _||_, cond}
 use mathlib.Core.Logic.{_⊎_, inl, inr, ⊎-elim}
 use mathlib.Core.List.{List, [], _∷_}
-use Prim.Native.Nat.{ℕ, zero, suc, _+_, _-_, _*_, _≤_, _<_, zero-le}
+use Prim.Native.Nat.{ℕ, zero, suc, _+_, _-_, _≤_, zero-le}
 use native.Mathlib.Nat.{le-trans}
 use native.Mathlib.Omega.{arith}
 use lib.Dec.{leb, eqb}
-use lib.ListN.{length}
 use borrow.Author.Tests.{leb-true, ne-eqb}
 use Rattle.sets.specs.Sets.{has, flip}
 use Rattle.rules.specs.Looks.{mustChange, near, member, looksAt, moveLooks, looks}
 use Rattle.rules.specs.declared.Requirement.{Requirement}
-use Rattle.rules.proofs.Counts.{cost, Apart, apart-turned, cost-neither, cost-turned, cost-flipped, cost-other, change-total, change-flip}
+use Rattle.rules.proofs.Counts.{cost, Apart, cost-neither, cost-turned, cost-flipped, cost-other, change-flip}
 use Rattle.rules.proofs.Or.{or-cases}
 use Rattle.rules.proofs.Meeting.{oneWay, otherWay}
-use Rattle.rules.proofs.Runs.{Fresh, Once, Below, sumOver, sum-fresh, sum-le}
+use Rattle.rules.proofs.Runs.{Once, Below, sumOver, sum-fresh, sum-le}
 use Rattle.rules.specs.OneBit.{passMoves}
 use Rattle.rules.proofs.Choice.{pass-fair}
 use Rattle.rules.proofs.Crossing.{bound, four, go-down, go-up}

@@ -1,14 +1,14 @@
 -- P1 to P10 of 01, "Known examples": one table, one test that is computed over all of it, and the law that makes it each case's statement.
-use mathlib.Core.Path.{_≡_, refl, sym, ap, ap₂, _∙_}
+use mathlib.Core.Path.{_≡_, refl, ap₂}
 use mathlib.Core.Bool.{Bool, true, false, _&&_}
 use mathlib.Core.List.{List, [], _∷_, map}
-use Prim.Native.Nat.{ℕ, zero, suc, _<_}
+use Prim.Native.Nat.{ℕ, zero, suc}
 use Prim.Native.String.{String}
 use native.Mathlib.Omega.{arith}
 use lib.Dec.{eqb}
 use lib.ListN.{length, getD}
 use borrow.Author.Tests.{eqb-true}
-use Rattle.sets.specs.Sets.{flip, statesFrom}
+use Rattle.sets.specs.Sets.{flip}
 use Rattle.sets.proofs.Every.{and-first, and-second}
 use Rattle.rules.specs.Text.{bytes, same, digit, one, plus, dash, setOf}
 use Rattle.rules.specs.Lines.{headLine}

@@ -1,12 +1,12 @@
 -- The line of a refusal: at most one more than the bytes of the listing, so a refusal's number and line can be told from minus (number × 100,000 + line).
 use mathlib.Core.Path.{_≡_, refl, sym, ap, _∙_, subst}
 use mathlib.Core.Bool.{Bool, true, false, cond}
-use mathlib.Core.List.{List, [], _∷_, _++_}
-use Prim.Native.Nat.{ℕ, zero, suc, _+_, _≤_, _<_}
+use mathlib.Core.List.{List, [], _∷_}
+use Prim.Native.Nat.{ℕ, suc, _+_, _≤_, _<_}
 use native.Mathlib.Decide.{decLt, ℕ-discrete}
 use native.Mathlib.Omega.{arith}
 use lib.Dec.{eqb, leb}
-use lib.ListN.{length, getD, take, set, List·getD-eq-default, length-take}
+use lib.ListN.{length, getD, set, List·getD-eq-default, length-take}
 use lib.Seq.{getD-set-same, getD-set-other, set-out, getD-take}
 use borrow.Author.Tests.{leb-true}
 use Rattle.rules.specs.Limits.{most-bytes}

@@ -1,13 +1,12 @@
 -- The mask form that code uses, against 01's words: the counts, near, and meeting are the same. For blocks that are apart, over any width.
 use mathlib.Core.Path.{_≡_, refl, sym, ap, ap₂, _∙_}
 use mathlib.Core.Bool.{Bool, true, false, _||_}
-use Prim.Native.Nat.{ℕ, zero, suc, _+_, _-_, _*_, _%_, _≤_, _<_, _^_, min, max}
-use native.Mathlib.Nat.{zero-mul, one-mul}
+use Prim.Native.Nat.{ℕ, zero, suc, _+_, _%_, _≤_, _<_, _^_, min, max}
 use native.Mathlib.Omega.{arith}
 use lib.Dec.{eqb, leb}
-use lib.Bits.{bitAnd, bitOr, bitXor, and-lt, or-lt, xor-lt}
+use lib.Bits.{bitOr, bitXor, and-lt, or-lt, xor-lt}
 use borrow.Author.Tests.{eq-eqb, ne-eqb, eqb-true, eqb-false}
-use Rattle.sets.specs.Sets.{has, size, total}
+use Rattle.sets.specs.Sets.{has, size}
 use Rattle.sets.specs.Blocks.{wrong, metMask, nearMask}
 use Rattle.sets.proofs.Members.{has-lt, has-and, has-or, has-xor, same-mask, has-none}
 use Rattle.sets.proofs.Totals.{total-same}
@@ -15,8 +14,8 @@ use Rattle.sets.proofs.Size.{size-total, size-none, none-size}
 use Rattle.rules.specs.Requirements.{met}
 use Rattle.rules.specs.Looks.{mustChange, near}
 use Rattle.rules.specs.declared.Requirement.{Requirement}
-use Rattle.rules.proofs.Counts.{cost, Apart, apart-turned, cost-zeros, cost-ones, cost-neither, one-block}
-use Rattle.rules.proofs.Meeting.{oneWay, otherWay, met-counts}
+use Rattle.rules.proofs.Counts.{cost, Apart, apart-turned, cost-zeros, cost-ones, cost-neither}
+use Rattle.rules.proofs.Meeting.{met-counts}
 
 has-wrong : (z o b s : ℕ) → has (wrong z o b) s ≡ min (max (has z s) (has o s)) ((has b s + has o s) % 2)
 has-wrong z o b s = has-and (bitOr z o) (bitXor b o) s ∙ ap₂ min (has-or z o s) (has-xor b o s)

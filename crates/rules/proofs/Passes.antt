@@ -1,23 +1,23 @@
 -- When a bit is done (01, "One bit"): what a pass keeps, that no single flip raises the number met, and how many passes it took.
-use mathlib.Core.Path.{_≡_, refl, sym, ap, ap₂, _∙_, subst}
-use mathlib.Core.Bool.{Bool, true, false, _||_, cond}
-use mathlib.Core.Logic.{_⊎_, inl, inr, ⊎-elim}
+use mathlib.Core.Path.{_≡_, refl}
+use mathlib.Core.Bool.{Bool, true, false, cond}
+use mathlib.Core.Logic.{inl}
 use mathlib.Core.List.{List, [], _∷_}
-use Prim.Native.Nat.{ℕ, zero, suc, _+_, _-_, _≤_, _<_, _^_, zero-le}
+use Prim.Native.Nat.{ℕ, zero, suc, _+_, _≤_, _<_, zero-le}
 use native.Mathlib.Nat.{le-refl, le-trans}
 use native.Mathlib.Omega.{arith}
-use lib.Dec.{ltb, eqb}
+use lib.Dec.{ltb}
 use lib.ListN.{length, take}
 use borrow.Author.Tests.{ltb-true, ltb-false}
-use Rattle.sets.specs.Sets.{has, flip, everyone}
-use Rattle.sets.proofs.Members.{has-lt, has-all, has-not, has-flip, has-flip-other}
+use Rattle.sets.specs.Sets.{flip, everyone}
+use Rattle.sets.proofs.Members.{has-all}
 use Rattle.rules.specs.Requirements.{met, metCount}
 use Rattle.rules.specs.Looks.{looks}
-use Rattle.rules.specs.OneBit.{Bit, start, choice, movesFrom, passMoves, kept, passesFrom, passes, counted, complemented, newBit}
+use Rattle.rules.specs.OneBit.{start, choice, movesFrom, passMoves, kept, passesFrom, passes, counted}
 use Rattle.rules.specs.declared.Requirement.{Requirement}
 use Rattle.rules.proofs.Counts.{Apart}
-use Rattle.rules.proofs.Meeting.{Split, means-met}
-use Rattle.rules.proofs.Choice.{Best, chosen}
+use Rattle.rules.proofs.Meeting.{means-met}
+use Rattle.rules.proofs.Choice.{chosen}
 
 -- the bit after a run of moves
 unfoldable pub after : ℕ → List ℕ → ℕ

@@ -1,22 +1,21 @@
 -- Shares (01, "Looks"): each is 1, 0 or -1 by a table of the two counts, a gain is their sum, and a move that does not look changes none.
 use mathlib.Core.Path.{_≡_, refl, sym, ap, ap₂, _∙_, subst}
 use mathlib.Core.Bool.{Bool, true, false, _&&_, _||_, cond, or-false}
-use mathlib.Core.Logic.{_⊎_, inl, inr, ⊎-elim}
+use mathlib.Core.Logic.{_⊎_, inl, inr}
 use mathlib.Core.List.{List, [], _∷_}
-use Prim.Native.Nat.{ℕ, zero, suc, _+_, _-_, _*_, _≤_, _<_}
+use Prim.Native.Nat.{ℕ, zero, suc, _+_, _-_, _<_}
 use native.Mathlib.Omega.{arith}
 use native.Mathlib.Decide.{ℕ-discrete}
 use lib.Dec.{eqb, leb, eqb·suc-suc, leb·suc-zero}
 use lib.IntN.{ℤ, pos, negsuc, negℤ, subℕ, _+ℤ_, +ℤ-assoc, +ℤ-comm, negℤ-+ℤ, pos-+ℤ-pos}
-use borrow.Author.Tests.{eq-eqb, ne-eqb, eqb-false, leb-false}
+use borrow.Author.Tests.{ne-eqb, eqb-false, leb-false}
 use Rattle.sets.specs.Sets.{has, flip}
 use Rattle.sets.proofs.Members.{has-lt, has-flip, has-flip-other}
-use Rattle.rules.specs.Text.{digit}
 use Rattle.rules.specs.Requirements.{met, metCount}
-use Rattle.rules.specs.Looks.{mustChange, near, member, looksAt, share}
+use Rattle.rules.specs.Looks.{near, member, looksAt, share}
 use Rattle.rules.specs.OneBit.{gain}
 use Rattle.rules.specs.declared.Requirement.{Requirement}
-use Rattle.rules.proofs.Counts.{cost, Apart, cost-neither, cost-turned, cost-flipped, change-flip, change-out}
+use Rattle.rules.proofs.Counts.{cost, Apart, cost-turned, cost-flipped, change-flip, change-out}
 use Rattle.rules.proofs.Meeting.{oneWay, otherWay, met-counts}
 
 -- met after the flip less met now

@@ -1,12 +1,12 @@
 -- What a trial record shows after a start and any calls of a move, refused ones among them (01, "Looks").
-use mathlib.Core.Path.{_≡_, refl, sym, ap, ap₂, _∙_, subst}
+use mathlib.Core.Path.{_≡_, refl, sym, _∙_, subst}
 use mathlib.Core.Bool.{Bool, true, false, _&&_, cond}
 use mathlib.Core.List.{List, [], _∷_}
-use Prim.Native.Nat.{ℕ, zero, suc, _+_, _-_, _≤_, _<_}
+use Prim.Native.Nat.{ℕ, _+_, _≤_, _<_}
 use native.Mathlib.Nat.{add-assoc, add-zero}
 use native.Mathlib.Omega.{arith}
 use lib.Dec.{ltb, eqb}
-use lib.IntN.{ℤ, subℕ}
+use lib.IntN.{subℕ}
 use borrow.Author.Tests.{ltb-true, eqb-true}
 use Rattle.sets.specs.Sets.{has, flip}
 use Rattle.sets.proofs.Members.{has-flip, has-flip-other}
@@ -14,7 +14,7 @@ use Rattle.sets.proofs.Every.{and-first, and-second}
 use Rattle.rules.specs.Requirements.{metCount}
 use Rattle.rules.specs.Looks.{moveLooks, looks}
 use Rattle.rules.specs.OneBit.{gain}
-use Rattle.rules.specs.Trial.{Trial, Tried, move, gainShown, taken, turnedDown}
+use Rattle.rules.specs.Trial.{Trial, move, gainShown, taken, turnedDown}
 use Rattle.rules.specs.declared.Requirement.{Requirement}
 use Rattle.rules.specs.declared.StateNumber.{StateNumber}
 use Rattle.rules.proofs.Counts.{Apart}

@@ -4,3 +4,4 @@ pub mod Size
 pub mod Every
 pub mod LowestMember
 pub mod SizeMembers
+pub mod OneAnswer

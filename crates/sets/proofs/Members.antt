@@ -1,5 +1,5 @@
 -- Who is a member of a union, a difference, a flip, a complement; and masks with the same members are equal. Over any width.
-use mathlib.Core.Path.{_≡_, refl, sym, ap, ap₂, _∙_, subst}
+use mathlib.Core.Path.{_≡_, refl, sym, ap, _∙_, subst}
 use Prim.Native.Nat.{ℕ, zero, suc, _+_, _-_, _*_, _/_, _%_, _^_, _≤_, _<_, min, max}
 use native.Mathlib.Nat.{mod-lt, zero-lt-suc, pow-suc, div-div-eq-div-mul, div-lt-iff-lt-mul, div-one, div-self, div-eq-of-lt, zero-div, one-mul, mod-eq-of-lt, mul-comm, lt-of-lt-of-le}
 use native.Mathlib.Omega.{arith}

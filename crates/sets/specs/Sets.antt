@@ -1,8 +1,10 @@
 -- Sets of states as masks: state s is a member of the mask m where digit s of m is 1.
-use mathlib.Core.Bool.{Bool, true, false, _&&_}
+use mathlib.Core.Bool.{Bool, true, _&&_, cond}
 use mathlib.Core.List.{List, [], _∷_}
 use Prim.Native.Nat.{ℕ, zero, suc, _+_, _-_, _/_, _%_, _^_}
 use lib.Bits.{bitXor}
+use lib.Count.{trailingZeros}
+use lib.Dec.{eqb}
 
 -- 1 where state s is a member of m, and 0 where it is not
 abbrev pub has : ℕ → ℕ → ℕ
@@ -19,6 +21,11 @@ everyone n = 2 ^ n - 1
 -- m with state s put in where it was out, and out where it was in
 abbrev pub flip : ℕ → ℕ → ℕ
 flip m s = bitXor m (2 ^ s)
+
+-- m without its lowest member, for sets of at most 64 states; the empty set stays as it is
+unfoldable pub withoutLowest : ℕ → ℕ
+unfolding trailingZeros
+withoutLowest m = cond (eqb m 0) 0 (flip m (trailingZeros 64 m))
 
 -- how many members m has: as many steps as m has digits, so that it computes on any numeral
 unfoldable pub sizeIn : ℕ → ℕ → ℕ

@@ -19,11 +19,11 @@ use Rattle.rules.specs.Limits.{most-states, most-trial}
 use Rattle.rules.specs.Trial.{within, paired, allSound}
 use Rattle.rules.specs.declared.Requirement.{Requirement}
 use Rattle.rules.proofs.Good.{AllGood, apart-and}
-use Rattle.passes.specs.Table.{level}
-use Rattle.passes.specs.Moves.{requirementOf, moved, looked}
-use Rattle.passes.proofs.Lists.{looked-le}
-use Rattle.passes.proofs.Ready.{Ready}
-use Rattle.passes.proofs.Shows.{Shows, shows-filled, shows-moved}
+use Rattle.shares.specs.Table.{level}
+use Rattle.shares.specs.Moves.{requirementOf, moved, looked}
+use Rattle.shares.proofs.Lists.{looked-le}
+use Rattle.shares.proofs.Ready.{Ready}
+use Rattle.shares.proofs.Shows.{Shows, shows-filled, shows-moved}
 use Rattle.trial.specs.declared.Trial.{Trial}
 use Rattle.trial.specs.Record.{none, shown, askedOf, nextOf}
 use Rattle.trial.proofs.Startable.{Startable}

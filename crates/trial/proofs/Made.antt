@@ -11,8 +11,8 @@ use borrow.Author.Tests.{lt-ltb, le-ltb}
 use Rattle.sets.specs.Sets.{flip}
 use Rattle.rules.specs.Trial.{startable}
 use Rattle.rules.specs.declared.StateNumber.{StateNumber}
-use Rattle.passes.specs.Table.{level}
-use Rattle.passes.specs.Moves.{drawn, filled, moved, looked}
+use Rattle.shares.specs.Table.{level}
+use Rattle.shares.specs.Moves.{drawn, filled, moved, looked}
 use Rattle.trial.specs.declared.Trial.{Trial}
 use Rattle.trial.specs.declared.Answer.{Answer}
 use Rattle.trial.specs.Record.{taken, turnedDown, deck, blocksOf, none, shown, startOf, askedOf, movable, nextOf, moveOf, gainOf}

@@ -13,8 +13,8 @@ use Rattle.rules.specs.declared.Requirement.{Requirement}
 use Rattle.rules.specs.declared.StateNumber.{StateNumber}
 use Rattle.rules.specs.declared.Verdict.{Verdict}
 use Rattle.rules.specs.declared.Refusal.the-variants.{BadCall}
-use Rattle.passes.specs.Table.{level}
-use Rattle.passes.specs.Moves.{drawn, filled, moved, looked}
+use Rattle.shares.specs.Table.{level}
+use Rattle.shares.specs.Moves.{drawn, filled, moved, looked}
 use Rattle.trial.specs.declared.Trial.{Trial}
 use Rattle.trial.specs.declared.Answer.{Answer}
 

@@ -8,8 +8,8 @@ ghost use lib.ListN.{replicate};
 ghost use lib.Seq.{sets};
 ghost use Rattle.rules.specs.Cases.{verdictNumbers};
 ghost use Rattle.rules.specs.Trial.{within, paired, allSound, startable};
-ghost use Rattle.passes.specs.Table.{level};
-ghost use Rattle.passes.specs.Moves.{drawn, filled};
+ghost use Rattle.shares.specs.Table.{level};
+ghost use Rattle.shares.specs.Moves.{drawn, filled};
 ghost use Rattle.trial.specs.Record.{cardOf, deck, blocksOf, taken, turnedDown, none, shown, startOf, movable, nextOf, moveOf, gainOf};
 
 // A trial record: n states, how many requirements it lists, the bit, the states that have moved, the looks so far. Of the blocks the first
@@ -149,8 +149,8 @@ fn deck_of() -> [u32; 256]
 fn levels_at(blocks: &[u64], cards: &[u32], b: u64) -> [u32; 64]
     ensures { λ r. ⌜ r ≡ filled (drawn (now (blocks .entry)) (now (cards .entry))) b (replicate 64 level) ⌝ }
 {
-    let mut t = [passes::LEVEL; 64];
-    passes::fill(blocks, cards, b, &mut t);
+    let mut t = [shares::LEVEL; 64];
+    shares::fill(blocks, cards, b, &mut t);
     t
 }
 
@@ -187,7 +187,7 @@ fn empty() -> Trial
         looks: 0,
         blocks: no_blocks(),
         cards: [0; 256],
-        table: [passes::LEVEL; 64],
+        table: [shares::LEVEL; 64],
     }
 }
 
@@ -237,7 +237,7 @@ fn next_of(t: Trial, s: usize) -> Trial
     let cards = t.cards;
     let mut table = t.table;
     let after = sets::flipped(bit, s);
-    let looks = passes::move_all(&blocks, &cards[..count], bit, after, s, &mut table);
+    let looks = shares::move_all(&blocks, &cards[..count], bit, after, s, &mut table);
     Trial {
         states: t.states,
         count,
@@ -281,7 +281,7 @@ impl Trial {
             return 0;
         }
         let t = self.table;
-        (passes::level_at(&t, k) as i64) - (passes::LEVEL as i64)
+        (shares::level_at(&t, k) as i64) - (shares::LEVEL as i64)
     }
 
     // The looks so far.

@@ -1,25 +1,8 @@
 -- `codes::add_bit` meets its contract.
-use Rattle.codes.specs.Build.{AddedBit}
-use Rattle.codes.proofs.NextBit.{Next, next-bit}
-use Prim.Native.Nat.{ℕ, zero, suc, _≤_, _<_, _-_, _+_, _*_, _^_}
-use mathlib.Core.Path.{_≡_, refl, sym, ap, _∙_}
-use mathlib.Core.Logic.{⊎-elim}
-use mathlib.Core.List.{List, [], _∷_, _++_}
-use mathlib.Core.Bool.{Bool, true, false}
-use native.Mathlib.Omega.{arith}
-use native.Mathlib.Numerals.{add-one}
-use borrow.Author.Needs.{needs}
-use borrow.Author.Tests.{lt-ltb, le-ltb, le-leb, lt-leb, eq-eqb, ne-eqb, not-true, not-false}
-use lib.ListN.{length, take, drop, getD, set}
+use Rattle.codes.proofs.NextBit.{next-bit}
 use borrow.Author.Needs.{needs}
 use Rattle.codes.proofs.add_bit.Statement.{statement}
 use Rattle.codes.proofs.add_bit.Tie as tie
-use Rattle.codes.proofs.add_bit.Reads as reads
-use Rattle.codes.proofs.add_bit.Lts as lts
-use Rattle.codes.proofs.complement.Reads as complement-reads
-use Rattle.codes.proofs.sift.sift.Reads as sift-reads
-use Rattle.passes.proofs.build_bit.Reads as build-bit-reads
-use Rattle.passes.proofs.second_of.Reads as second-of-reads
 
 slice-read-second-of : tie.Need-slice-read-second-of
 slice-read-second-of c = search needs

@@ -1,23 +1,14 @@
 -- `codes::build_bits` meets its contract: the rest of the rule from here gives the whole code.
 use lib.ListN.{length-take, length-set}
-use Rattle.passes.specs.Moves.{drawn}
-use Rattle.codes.specs.Build.{AddedBit, Begun, Done, Outcome}
+use Rattle.codes.specs.Build.{AddedBit}
 use Rattle.codes.proofs.Running.{Running, running-start, running-stalls, running-more, running-end, running-none, live-ready, live-some, sum-fits}
-use Prim.Native.Nat.{ℕ, zero, suc, _≤_, _<_, _-_, _+_, _*_, _%_, _^_}
+use Prim.Native.Nat.{ℕ, _<_, _-_, _+_, _%_, _^_}
 use mathlib.Core.Path.{_≡_, refl, sym, ap, _∙_, subst}
-use mathlib.Core.Logic.{⊎-elim}
-use mathlib.Core.List.{List, [], _∷_, _++_}
-use mathlib.Core.Bool.{Bool, true, false}
 use native.Mathlib.Omega.{arith}
-use native.Mathlib.Numerals.{add-one}
 use borrow.Author.Needs.{needs}
-use borrow.Author.Tests.{lt-ltb, le-ltb, le-leb, lt-leb, eq-eqb, ne-eqb, not-true, not-false}
-use lib.ListN.{length, take, drop, getD, set}
+use lib.ListN.{length, take}
 use Rattle.codes.proofs.build_bits.Statement.{statement}
 use Rattle.codes.proofs.build_bits.Tie as tie
-use Rattle.codes.proofs.build_bits.Reads as reads
-use Rattle.codes.proofs.build_bits.Lts as lts
-use Rattle.codes.proofs.add_bit.Reads as add-bit-reads
 
 abbrev Inv-loop : tie.InvT-loop
 Inv-loop blocks cards₀ by₀ bits₀ n most width₀ live₀ passes₀ looks₀ cards by bits width live passes looks = Running blocks n most cards₀ bits₀ cards by bits width live passes looks × (length by ≡ length by₀) × (length bits ≡ length bits₀)

@@ -21,8 +21,8 @@ returns c =
     let m : eqb (has (a .b) 0) 1 ≡ false = sym (c .before .member .ensures) ∙ not-true (c .before .member .result) (c .if1 .taken) in
     rw m
 
-all-below-requires : tie.Need-all-below-requires
-all-below-requires c κs = search needs
+everyone-of-requires : tie.Need-everyone-of-requires
+everyone-of-requires c κs = search needs
 
 returns-2 : tie.Need-returns-2
 unfolding complemented
@@ -30,7 +30,7 @@ returns-2 c =
     let a = c .before .before .before .before .args in
     let v = c .before .before .before .member in
     let m : eqb (has (a .b) 0) 1 ≡ true = sym (v .ensures) ∙ not-false (v .result) (c .before .before .if1 .left) in
-    let e : everyone (min (a .n) 64) < a .b = omega (arith, c .if2 .taken, c .before .all-below .ensures) in
+    let e : everyone (min (a .n) 64) < a .b = omega (arith, c .if2 .taken, c .before .everyone-of .ensures) in
     rw m (omega arith)
 
 returns-3 : tie.Need-returns-3
@@ -39,8 +39,8 @@ returns-3 c =
     let a = c .before .before .before .before .args in
     let v = c .before .before .before .member in
     let m : eqb (has (a .b) 0) 1 ≡ true = sym (v .ensures) ∙ not-false (v .result) (c .before .before .if1 .left) in
-    rw m (ap (λ (k : ℕ). k - a .b) (c .before .all-below .ensures))
+    rw m (ap (λ (k : ℕ). k - a .b) (c .before .everyone-of .ensures))
 
 pub complement-spec : {M : Type 1} → statement M
 complement-spec =
-    tie.close (tie.spec member-requires returns all-below-requires returns-2 returns-3)
+    tie.close (tie.spec member-requires returns everyone-of-requires returns-2 returns-3)

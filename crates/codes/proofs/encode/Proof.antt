@@ -1,42 +1,89 @@
--- `codes::encode` meets its contract.
-use Rattle.codes.specs.Encode.{encoded}
-use Prim.Native.Nat.{ℕ, zero, suc, _≤_, _<_, _-_, _+_, _*_, _^_}
-use mathlib.Core.Path.{_≡_, refl, sym, ap, _∙_}
-use mathlib.Core.Logic.{⊎-elim}
-use mathlib.Core.List.{List, [], _∷_, _++_}
-use mathlib.Core.Bool.{Bool, true, false}
+-- `codes::encode` meets its contract: a listing of which cards are dealt is fair, and any other is not.
+use Prim.Native.Nat.{ℕ, _≤_}
+use mathlib.Core.Path.{_≡_, sym, ap, _∙_}
 use native.Mathlib.Omega.{arith}
-use native.Mathlib.Numerals.{add-one}
 use borrow.Author.Needs.{needs}
-use borrow.Author.Tests.{lt-ltb, le-ltb, le-leb, lt-leb, eq-eqb, ne-eqb, not-true, not-false}
-use lib.ListN.{length, take, drop, getD, set}
-use borrow.Author.Needs.{needs}
+use lib.ListN.{length, length-take, length-replicate}
+use Rattle.cards.proofs.Answers.{no-cards, so-fair, as-long, so-laid, so-dealt, so-long}
+use Rattle.codes.proofs.Encoded.{encoded-fair, encoded-unfair}
 use Rattle.codes.proofs.encode.Statement.{statement}
 use Rattle.codes.proofs.encode.Tie as tie
-use Rattle.codes.proofs.encode.Reads as reads
-use Rattle.codes.proofs.encode.Lts as lts
-use Rattle.cards.proofs.is_fair.Reads as is-fair-reads
-use Rattle.codes.proofs.encode_fair.Reads as encode-fair-reads
-use Rattle.codes.proofs.uncoded_as.Reads as uncoded-as-reads
 
-is-fair-requires : tie.Need-is-fair-requires
-is-fair-requires c κs = search needs
+no-blocks-requires : tie.Need-no-blocks-requires
+no-blocks-requires c κs = search needs
 
-encode-fair-requires : tie.Need-encode-fair-requires
-encode-fair-requires c κs = sym (c .before .is-fair .ensures) ∙ c .if1 .taken
+no-cards-requires : tie.Need-no-cards-requires
+no-cards-requires c κs = search needs
 
-returns : tie.Need-returns
-unfolding encoded
-returns c = rw (sym (c .before .before .is-fair .ensures) ∙ c .before .if1 .taken) (c .encode-fair .ensures)
+deal-out-requires : tie.Need-deal-out-requires
+deal-out-requires c κs = search needs
+
+enum-told : tie.Need-enum-told
+enum-told c = search needs
 
 uncoded-as-requires : tie.Need-uncoded-as-requires
 uncoded-as-requires c κs = search needs
 
+enum-known-asked : tie.Need-enum-known-asked
+enum-known-asked c = search needs
+
+-- the cards dealt stand in the pile
+in-pile : (c : tie.After-asked) → c .asked .given .0 .0 ≤ length (c .before .before .deal-out .last .1 .1 .0)
+in-pile c = so-long _ _ _ _ _ _ (c .before .before .deal-out .ensures) _ (c .asked .given .1)
+
+-- the table is as long as it was
+long-table : (c : tie.After-asked) → length (c .before .before .deal-out .last .1 .0) ≡ 320
+long-table c =
+    let d = c .before .before in
+    as-long _ _ _ _ _ _ (d .deal-out .ensures) _ (c .asked .given .1)
+    ∙ ap length (d .before .before .before .before .no-blocks .ensures)
+    ∙ length-replicate {A = ℕ} 320 0
+
+slice-aggregate-encode-fair : tie.Need-slice-aggregate-encode-fair
+slice-aggregate-encode-fair c = sym (long-table (c .before .before))
+
+array-borrow-prefix-pile : tie.Need-array-borrow-prefix-pile
+array-borrow-prefix-pile c = in-pile (c .before .before)
+
+slice-aggregate-encode-fair-2 : tie.Need-slice-aggregate-encode-fair-2
+slice-aggregate-encode-fair-2 c =
+    let a = c .before .before .before in
+    omega (arith, length-take (a .asked .given .0 .0) (a .before .before .deal-out .last .1 .1 .0), in-pile a)
+
+encode-fair-requires : tie.Need-encode-fair-requires
+encode-fair-requires c κs =
+    let a = c .before .before .before in
+    let d = a .before .before in
+    let s = d .before .before .before .before in
+    let long : 320 ≤ length (s .no-blocks .result) = omega (arith, ap length (s .no-blocks .ensures), length-replicate {A = ℕ} 320 0) in (
+      so-fair _ _ _ _ _ _ (d .deal-out .ensures) _ (a .asked .given .1),
+      so-laid _ _ _ _ _ _ (d .deal-out .ensures) _ (a .asked .given .1) long,
+      so-dealt _ _ _ _ _ _ (d .deal-out .ensures) _ (a .asked .given .1),
+    )
+
+returns : tie.Need-returns
+returns c =
+    let told = c .before in
+    c .uncoded-as .ensures ∙ encoded-unfair _ (no-cards _ _ _ _ _ _ (told .before .before .deal-out .ensures) (told .enum-told .given .1))
+
 returns-2 : tie.Need-returns-2
-unfolding encoded
-returns-2 c = rw (sym (c .before .before .is-fair .ensures) ∙ c .before .if1 .left) (c .uncoded-as .ensures)
+returns-2 c =
+    let a = c .before .before .before .before .before in
+    c .before .encode-fair .ensures ∙ encoded-fair _ (so-fair _ _ _ _ _ _ (a .before .before .deal-out .ensures) _ (a .asked .given .1))
 
 pub encode-spec : {M : Type 1} → statement M
 encode-spec =
     tie.close
-    (tie.spec is-fair-requires encode-fair-requires returns uncoded-as-requires returns-2)
+    (tie.spec
+    no-blocks-requires
+    no-cards-requires
+    deal-out-requires
+    enum-told
+    uncoded-as-requires
+    enum-known-asked
+    slice-aggregate-encode-fair
+    array-borrow-prefix-pile
+    slice-aggregate-encode-fair-2
+    encode-fair-requires
+    returns
+    returns-2)

@@ -1,77 +1,28 @@
--- `faces::put_cover` meets its contract.
-use mathlib.Core.Path.{_≡_, sym, _∙_}
-use Prim.Native.Nat.{_≤_}
+-- `faces::put_cover` meets its contract: beyond the limits nothing is written.
+use Rattle.pen.proofs.Laws.{wrote-as, wrote-none}
+use Rattle.faces.proofs.Rows.{bounded-head, cover-within, cover-beyond}
+use mathlib.Core.Path.{sym, _∙_}
 use native.Mathlib.Omega.{arith}
-use lib.ListN.{length, length-map}
-use lib.Seq.{length-take-le}
 use borrow.Author.Needs.{needs}
-use Rattle.pen.proofs.Laws.{wrote-then, wrote-as}
-use Rattle.faces.proofs.Rows.{cover-parts}
+use lib.ListN.{take}
 use Rattle.faces.proofs.put_cover.Statement.{statement}
 use Rattle.faces.proofs.put_cover.Tie as tie
 
--- the lengths of the arrays, and that the bits written are a part of theirs
-bits-length : (c : tie.Start) → length (c .args .t4) ≡ 32
-bits-length c = search needs
+is-bounded-requires : tie.Need-is-bounded-requires
+is-bounded-requires c κs = search needs
 
-table-length : (c : tie.Start) → length (c .args .t .table) ≡ 128
-table-length c = sym (length-map (c .args .t .table) _) ∙ c .good .1 .0 .1 .1 .1 .1 .0 .1 .0 .1
-
-bits-part : (c : tie.After-at-most) → c .at-most .result ≤ length (c .before .before .before .before .args .t4)
-bits-part c = omega (arith, bits-length (c .before .before .before .before))
-
-at-most-requires : tie.Need-at-most-requires
-at-most-requires c κs = search needs
-
-at-most-requires-2 : tie.Need-at-most-requires-2
-at-most-requires-2 c κs = search needs
-
-add-put-counts : tie.Need-add-put-counts
-add-put-counts c = search needs
-
-add-put-counts-2 : tie.Need-add-put-counts-2
-add-put-counts-2 c = search needs
-
-put-counts-requires : tie.Need-put-counts-requires
-put-counts-requires c κs = search needs
-
-array-share-prefix-bits : tie.Need-array-share-prefix-bits
-array-share-prefix-bits c = search needs
-
-slice-aggregate-put-rows : tie.Need-slice-aggregate-put-rows
-slice-aggregate-put-rows c = sym (length-take-le _ _ (bits-part (c .before .before .before .before .before .before .before .before .before)))
-
-put-rows-requires : tie.Need-put-rows-requires
-put-rows-requires c κs = search needs
-
-slice-aggregate-put-bytes : tie.Need-slice-aggregate-put-bytes
-slice-aggregate-put-bytes c = search needs
-
-put-bytes-requires : tie.Need-put-bytes-requires
-put-bytes-requires c κs = search needs
+put-bounded-requires : tie.Need-put-bounded-requires
+put-bounded-requires c κs = bounded-head (c .before .before .before .before .args .t .head) (sym (c .before .before .is-bounded .ensures) ∙ c .before .if1 .taken)
 
 same-length : tie.Need-same-length
 same-length c = search needs
 
 returns : tie.Need-returns
-returns c =
-    wrote-as
-    (wrote-then (c .before .before .before .before .before .before .before .before .before .before .before .before .put-counts .ensures) (wrote-then (c .before .before .before .before .before .before .before .put-rows .ensures) (c .before .before .put-bytes .ensures)))
-    (cover-parts _ _ _ (bits-length (c .before .before .before .before .before .before .before .before .before .before .before .before .before .before .before .before .before .before .before .before .before)) (table-length (c .before .before .before .before .before .before .before .before .before .before .before .before .before .before .before .before .before .before .before .before .before)) (c .before .before .before .before .before .before .before .before .before .before .before .before .before .before .before .before .before .at-most .ensures) (c .before .before .before .before .before .before .before .before .before .before .before .before .before .before .before .before .at-most2 .ensures))
+returns c = let s = c .before .before .before .before .before .before .before .args in wrote-as (c .before .before .put-bounded .ensures) (cover-within (s .t) (take (s .width) (s .bits)) (sym (c .before .before .before .before .before .is-bounded .ensures) ∙ c .before .before .before .before .if1 .taken))
+
+returns-2 : tie.Need-returns-2
+returns-2 c = let s = c .before .before .before .args in wrote-as (wrote-none _ _ (omega arith) (omega arith)) (sym (cover-beyond (s .t) (take (s .width) (s .bits)) (sym (c .before .is-bounded .ensures) ∙ c .if1 .left)))
 
 pub put-cover-spec : {M : Type 1} → statement M
 put-cover-spec =
-    tie.close
-    (tie.spec
-    at-most-requires
-    at-most-requires-2
-    add-put-counts
-    add-put-counts-2
-    put-counts-requires
-    array-share-prefix-bits
-    slice-aggregate-put-rows
-    put-rows-requires
-    slice-aggregate-put-bytes
-    put-bytes-requires
-    same-length
-    returns)
+    tie.close (tie.spec is-bounded-requires put-bounded-requires same-length returns returns-2)

@@ -1,71 +1,21 @@
--- `faces::put_face` meets its contract. The loop's invariant: what is written is the face in the first k bits.
-use mathlib.Core.Path.{_≡_, sym, ap}
-use mathlib.Core.List.{List}
-use Prim.Native.Nat.{ℕ, _≤_, _-_}
-use native.Mathlib.Omega.{arith}
-use lib.ListN.{length, take}
-use lib.Seq.{take-all}
+-- `faces::put_face` meets its contract.
+use Rattle.pen.proofs.Laws.{wrote-as}
+use Rattle.faces.proofs.Rows.{values-face}
 use borrow.Author.Needs.{needs}
-use Rattle.pen.specs.Pen.{Wrote}
-use Rattle.pen.proofs.Laws.{wrote-none, wrote-then, wrote-as, wrote-same}
-use Rattle.faces.specs.Faces.{faceText}
-use Rattle.faces.proofs.Rows.{face-none, face-more}
 use Rattle.faces.proofs.put_face.Statement.{statement}
 use Rattle.faces.proofs.put_face.Tie as tie
 
-abbrev Inv-loop : tie.InvT-loop
-Inv-loop out₀ at n bits g k₀ to₀ out k to = (k ≤ length bits) × Wrote out₀ at (faceText n (take k bits) g) to out
+below-requires : tie.Need-below-requires
+below-requires c κs = search needs
 
-abbrev μ-loop : tie.MeasureT-loop
-μ-loop out₀ at n bits g k₀ to₀ out k to = length bits - k
+put-values-requires : tie.Need-put-values-requires
+put-values-requires c κs = search needs
 
-loop-holds : tie.Need-loop-holds Inv-loop μ-loop
-loop-holds c = (search needs, wrote-as (wrote-none _ _ (omega arith) (omega arith)) (sym (face-none _ _)))
+same-length : tie.Need-same-length
+same-length c = search needs
 
-mul-face-byte : tie.Need-mul-face-byte Inv-loop μ-loop
-mul-face-byte c = search needs
-
-shared-slice-read-face-byte : tie.Need-shared-slice-read-face-byte Inv-loop μ-loop
-shared-slice-read-face-byte c = search needs
-
-face-byte-requires : tie.Need-face-byte-requires Inv-loop μ-loop
-face-byte-requires c κs = search needs
-
-put-byte-requires : tie.Need-put-byte-requires Inv-loop μ-loop
-put-byte-requires c κs = search needs
-
-add-k : tie.Need-add-k Inv-loop μ-loop
-add-k c = search needs
-
-loop-less : tie.Need-loop-less Inv-loop μ-loop
-loop-less c = search needs
-
-loop-again : tie.Need-loop-again Inv-loop μ-loop
-loop-again c =
-    let more = face-more (c .before .before .before .before .before .before .before .before .before .before .args .n) (c .before .before .before .before .before .before .before .before .before .before .args .g) (c .before .before .before .before .before .before .before .before .before .before .args .bits .now) (c .before .before .before .before .before .before .before .loop .k) (omega arith) (c .before .before .before .face-byte .ensures) in
-    (search needs, wrote-as (wrote-then (c .before .before .before .before .before .before .before .loop .inv .1) (c .before .before .put-byte .ensures)) (sym more))
-
-same-length : tie.Need-same-length Inv-loop μ-loop
-same-length c = wrote-same (c .before .loop .inv .1)
-
-returns : tie.Need-returns Inv-loop μ-loop
-returns c =
-    let all = take-all (c .before .loop .k) (c .before .before .before .before .args .bits .now) (omega arith) in
-    wrote-as (c .before .loop .inv .1) (ap (λ (l : List ℕ). faceText (c .before .before .before .before .args .n) l (c .before .before .before .before .args .g)) all)
+returns : tie.Need-returns
+returns c = let s = c .before .before .before .before .before .before .before .args in wrote-as (c .before .before .put-values .ensures) (values-face (s .n) (s .g) (c .before .before .before .below .ensures) (s .bits .now))
 
 pub put-face-spec : {M : Type 1} → statement M
-put-face-spec =
-    tie.close
-    (tie.spec
-    Inv-loop
-    μ-loop
-    loop-holds
-    mul-face-byte
-    shared-slice-read-face-byte
-    face-byte-requires
-    put-byte-requires
-    add-k
-    loop-less
-    loop-again
-    same-length
-    returns)
+put-face-spec = tie.close (tie.spec below-requires put-values-requires same-length returns)

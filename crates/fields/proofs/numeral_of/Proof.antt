@@ -9,8 +9,6 @@ use Rattle.rules.specs.Text.{digitsOf, numeralOf}
 use Rattle.fields.proofs.Numbers.{digits-step, digits-end, numeral-shaped, shaped-short, NextDigit, next-digit}
 use Rattle.fields.proofs.numeral_of.Statement.{statement}
 use Rattle.fields.proofs.numeral_of.Tie as tie
-use Rattle.fields.proofs.numeral_of.Reads as reads
-use Rattle.fields.proofs.numeral_of.Lts as lts
 
 abbrev Inv-loop : tie.InvT-loop
 Inv-loop f v₀ i₀ v i = (i ≤ length f) × (length f ≤ 4) × (v < 10 ^ i) × (digitsOf v (drop i f) ≡ numeralOf f)

@@ -1,35 +1,24 @@
 -- `passes::run_pass` meets its contract: the moves from here on make of the pass what all moves make of its start.
 use mathlib.Core.Path.{ap₂}
 use Rattle.sets.specs.Sets.{everyone}
-use Rattle.passes.specs.Table.{level}
-use Rattle.passes.specs.declared.Passed.{Passed}
-use lib.ListN.{replicate}
-use Rattle.passes.specs.Moves.{drawn, filled}
-use Rattle.passes.specs.Pass.{Going, going, goOn, goMoves, passed}
+use Rattle.shares.specs.Table.{level}
+use Rattle.shares.specs.Moves.{drawn}
+use Rattle.passes.specs.Pass.{Going, going, goMoves, passed}
 use Rattle.passes.proofs.OneMove.{moves-start, moves-more, moves-end}
-use Prim.Native.Nat.{ℕ, zero, suc, _≤_, _<_, _-_, _+_, _*_, _^_}
-use mathlib.Core.Path.{_≡_, refl, sym, ap, _∙_}
-use mathlib.Core.Logic.{⊎-elim}
-use mathlib.Core.List.{List, [], _∷_, _++_}
-use mathlib.Core.Bool.{Bool, true, false}
+use Prim.Native.Nat.{ℕ, _≤_, _-_, _+_, min}
+use mathlib.Core.Path.{_≡_, sym, ap, _∙_}
+use mathlib.Core.List.{List}
 use native.Mathlib.Omega.{arith}
-use native.Mathlib.Numerals.{add-one}
 use borrow.Author.Needs.{needs}
-use borrow.Author.Tests.{lt-ltb, le-ltb, le-leb, lt-leb, eq-eqb, ne-eqb, not-true, not-false}
-use lib.ListN.{length, take, drop, getD, set}
+use lib.ListN.{length}
 use Rattle.passes.proofs.run_pass.Statement.{statement}
 use Rattle.passes.proofs.run_pass.Tie as tie
-use Rattle.passes.proofs.run_pass.Reads as reads
-use Rattle.passes.proofs.run_pass.Lts as lts
-use Rattle.passes.proofs.all_below.Reads as all-below-reads
-use Rattle.passes.proofs.fill.Reads as fill-reads
-use Rattle.passes.proofs.go_on.Reads as go-on-reads
 
 abbrev Inv-loop : tie.InvT-loop
-Inv-loop blocks cards n b t₀ w₀ i₀ t w i = (goMoves (n - i) n (drawn blocks cards) (going w t) ≡ goMoves n n (drawn blocks cards) (going w₀ t₀)) × (i ≤ n) × (length t ≡ 64)
+Inv-loop blocks cards index n b t₀ w₀ i₀ t w i = (goMoves (n - i) n (drawn blocks cards) (going w t) ≡ goMoves n n (drawn blocks cards) (going w₀ t₀)) × (i ≤ n) × (length t ≡ 64)
 
 abbrev μ-loop : tie.MeasureT-loop
-μ-loop blocks cards n b t₀ w₀ i₀ t w i = n - i
+μ-loop blocks cards index n b t₀ w₀ i₀ t w i = n - i
 
 slice-aggregate-fill : tie.Need-slice-aggregate-fill Inv-loop μ-loop
 slice-aggregate-fill c = search needs
@@ -37,8 +26,8 @@ slice-aggregate-fill c = search needs
 fill-requires : tie.Need-fill-requires Inv-loop μ-loop
 fill-requires c κs = search needs
 
-all-below-requires : tie.Need-all-below-requires Inv-loop μ-loop
-all-below-requires c κs = search needs
+everyone-of-requires : tie.Need-everyone-of-requires Inv-loop μ-loop
+everyone-of-requires c κs = search needs
 
 loop-holds : tie.Need-loop-holds Inv-loop μ-loop
 loop-holds c = (moves-start _ _ _, search needs, c .before .before .fill .kept .1 .1 .1 .0)
@@ -58,23 +47,24 @@ loop-less c = search needs
 loop-again : tie.Need-loop-again Inv-loop μ-loop
 loop-again c = let l = c .before .before .before .before in
     let v = c .before .go-on in
-    let s = l .before .before .before .before .before .before .before in
+    let s = l .before .before .before .before .before .before .before .before in
     let rs = drawn (s .args .blocks .now) (s .args .cards .now) in (
       ap (goMoves (s .args .n - (l .loop .i + 1)) (s .args .n) rs) (v .ensures)
           ∙ sym (moves-more (s .args .n) (l .loop .i) rs (going (l .loop .w) (l .loop .t)) (c .before .before .before .loop-test .taken))
           ∙ l .loop .inv .0,
       search needs,
-      v .kept .1 .1 .1 .1 .0 ∙ l .loop .inv .2,
+      v .kept .1 .1 .1 .1 .1 .0 ∙ l .loop .inv .2,
     )
 
 returns : tie.Need-returns Inv-loop μ-loop
 unfolding passed
 returns c = let l = c .before .before in
-    let s = l .before .before .before .before .before .before .before in
+    let s = l .before .before .before .before .before .before .before .before in
+    let all : min (s .args .n) 64 ≡ s .args .n = omega (arith, s .pre .0) in
     let rs = drawn (s .args .blocks .now) (s .args .cards .now) in
     ap (λ (g : Going). g .best) (sym (moves-end (s .args .n) (l .loop .i) rs (going (l .loop .w) (l .loop .t)) (c .before .loop-test .left)) ∙ l .loop .inv .0)
     ∙ ap₂ (λ (f : ℕ) (t : List ℕ). goMoves (s .args .n) (s .args .n) rs (record { bit = s .args .b; free = f; table = t; now = level; best = record { bit = s .args .b; level = level; looks = 0 } }) .best)
-    (l .before .all-below .ensures) (l .before .before .before .fill .ensures)
+    (l .before .everyone-of .ensures ∙ ap everyone all) (l .before .before .before .fill .ensures)
 
 pub run-pass-spec : {M : Type 1} → statement M
 run-pass-spec =
@@ -84,7 +74,7 @@ run-pass-spec =
     μ-loop
     slice-aggregate-fill
     fill-requires
-    all-below-requires
+    everyone-of-requires
     loop-holds
     slice-aggregate-go-on
     go-on-requires

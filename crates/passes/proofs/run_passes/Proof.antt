@@ -1,34 +1,22 @@
 -- `passes::run_passes` meets its contract: what is counted, with what the passes from here on add, is what all passes add.
-use Prim.Native.Nat.{_%_}
 use mathlib.Core.Path.{ap₂}
-use native.Mathlib.Nat.{mod-lt}
-use Rattle.passes.specs.declared.Built.{Built}
 use Rattle.passes.proofs.Tally.{same-built}
-use Rattle.passes.specs.Moves.{drawn}
+use Rattle.shares.specs.Moves.{drawn}
 use Rattle.passes.specs.Pass.{passesBy, tallied}
 use Rattle.passes.proofs.Tally.{tally-more, tally-last, tally-none}
-use Prim.Native.Nat.{ℕ, zero, suc, _≤_, _<_, _-_, _+_, _*_, _^_}
-use mathlib.Core.Path.{_≡_, refl, sym, ap, _∙_}
-use mathlib.Core.Logic.{⊎-elim}
-use mathlib.Core.List.{List, [], _∷_, _++_}
-use mathlib.Core.Bool.{Bool, true, false}
+use Prim.Native.Nat.{ℕ, _<_, _-_, _+_, _^_}
+use mathlib.Core.Path.{_≡_, refl, sym, _∙_}
 use native.Mathlib.Omega.{arith}
-use native.Mathlib.Numerals.{add-one}
 use borrow.Author.Needs.{needs}
-use borrow.Author.Tests.{lt-ltb, le-ltb, le-leb, lt-leb, eq-eqb, ne-eqb, not-true, not-false}
-use lib.ListN.{length, take, drop, getD, set}
+use lib.ListN.{length}
 use Rattle.passes.proofs.run_passes.Statement.{statement}
 use Rattle.passes.proofs.run_passes.Tie as tie
-use Rattle.passes.proofs.run_passes.Reads as reads
-use Rattle.passes.proofs.run_passes.Lts as lts
-use Rattle.passes.proofs.run_pass.Reads as run-pass-reads
-use Rattle.std.proofs.num.wrapping_add_u64.Reads as wrapping-add-u64-reads
 
 abbrev Inv-loop : tie.InvT-loop
-Inv-loop blocks cards n start b₀ passes₀ looks₀ left₀ b passes looks left = (tallied passes looks (passesBy left n (drawn blocks cards) b) ≡ tallied 0 0 (passesBy (length cards + 1) n (drawn blocks cards) start)) × (passes < 2 ^ 64) × (looks < 2 ^ 64)
+Inv-loop blocks cards index n start b₀ passes₀ looks₀ left₀ b passes looks left = (tallied passes looks (passesBy left n (drawn blocks cards) b) ≡ tallied 0 0 (passesBy (length cards + 1) n (drawn blocks cards) start)) × (passes < 2 ^ 64) × (looks < 2 ^ 64)
 
 abbrev μ-loop : tie.MeasureT-loop
-μ-loop blocks cards n start b₀ passes₀ looks₀ left₀ b passes looks left = left
+μ-loop blocks cards index n start b₀ passes₀ looks₀ left₀ b passes looks left = left
 
 add-left : tie.Need-add-left Inv-loop μ-loop
 add-left c = search needs
@@ -50,7 +38,7 @@ returns c = let w = c .before .before in
     let v = w .before in
     let r = v .before in
     let l = r .before .before in
-    let s = l .before .before .before in
+    let s = l .before .before .before .before in
     let rs = drawn (s .args .blocks .now) (s .args .cards .now) in
     same-built (l .loop .b) _ _ _ _ (v .wrapping-add-u64 .ensures) (w .wrapping-add-u642 .ensures)
     ∙ tally-last (s .args .n) rs (l .loop .b) (l .loop .passes) (l .loop .looks) (l .loop .left) (r .run-pass .result) (r .before .loop-test .taken) (r .run-pass .ensures) (c .if1 .taken)
@@ -67,7 +55,7 @@ loop-again c = let w = c .before .before in
     let v = w .before in
     let r = v .before in
     let l = r .before .before in
-    let s = l .before .before .before in
+    let s = l .before .before .before .before in
     let rs = drawn (s .args .blocks .now) (s .args .cards .now) in (
       ap₂ (λ (p q : ℕ). tallied p q (passesBy (l .loop .left - 1) (s .args .n) rs (r .run-pass .result .bit))) (v .wrapping-add-u64 .ensures) (w .wrapping-add-u642 .ensures)
           ∙ sym (tally-more (s .args .n) rs (l .loop .b) (l .loop .passes) (l .loop .looks) (l .loop .left) (r .run-pass .result) (r .before .loop-test .taken) (r .run-pass .ensures) (c .if1 .left))
@@ -78,7 +66,7 @@ loop-again c = let w = c .before .before in
 
 returns-2 : tie.Need-returns-2 Inv-loop μ-loop
 returns-2 c = let l = c .before in
-    let s = l .before .before .before in
+    let s = l .before .before .before .before in
     tally-none (s .args .n) (drawn (s .args .blocks .now) (s .args .cards .now)) (l .loop .b) (l .loop .passes) (l .loop .looks) (l .loop .left) (search needs) (l .loop .inv .1) (l .loop .inv .2)
     ∙ l .loop .inv .0
 

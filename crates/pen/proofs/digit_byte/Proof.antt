@@ -1,6 +1,6 @@
 -- `pen::digit_byte` meets its contract: a digit is 1 where the state is a member, and 0 where it is not.
 use mathlib.Core.Path.{_≡_, sym, _∙_}
-use mathlib.Core.Bool.{Bool, true, false}
+use mathlib.Core.Bool.{true, false}
 use Prim.Native.Nat.{ℕ, _+_}
 use native.Mathlib.Omega.{arith}
 use lib.Dec.{eqb}

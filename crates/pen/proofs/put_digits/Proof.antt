@@ -1,6 +1,6 @@
 -- `pen::put_digits` meets its contract. The loop's invariant: what is written is the first i digits.
 use mathlib.Core.Path.{_≡_, sym, ap}
-use Prim.Native.Nat.{_≤_, _+_, _-_}
+use Prim.Native.Nat.{_≤_, _-_}
 use native.Mathlib.Omega.{arith}
 use borrow.Author.Needs.{needs}
 use Rattle.pen.specs.Pen.{Wrote, digitsText}

@@ -1,5 +1,5 @@
 -- `report::put_unmet_lines` meets its contract. The loop's invariant: what is written is the lines of the first k requirements.
-use mathlib.Core.Path.{_≡_, sym, ap}
+use mathlib.Core.Path.{sym, ap}
 use mathlib.Core.List.{List}
 use Prim.Native.Nat.{ℕ, _≤_, _-_}
 use native.Mathlib.Omega.{arith}

@@ -1,5 +1,5 @@
 -- `report::put_values` meets its contract. The loop's invariant: what is written is the state's values in the first k bits.
-use mathlib.Core.Path.{_≡_, sym, ap}
+use mathlib.Core.Path.{sym, ap}
 use mathlib.Core.List.{List}
 use Prim.Native.Nat.{ℕ, _≤_, _-_}
 use native.Mathlib.Omega.{arith}

@@ -1,14 +1,16 @@
--- `sets::few` meets its contract: the machine's count is the size.
-use mathlib.Core.Path.{_≡_, sym, ap}
-use mathlib.Core.Bool.{Bool}
-use Prim.Native.Nat.{ℕ}
+-- `sets::few` meets its contract.
 use lib.Dec.{leb}
-use Rattle.sets.proofs.Size.{size-ones}
+use Prim.Native.Nat.{ℕ}
+use mathlib.Core.Path.{ap}
+use borrow.Author.Needs.{needs}
 use Rattle.sets.proofs.few.Statement.{statement}
 use Rattle.sets.proofs.few.Tie as tie
 
+size-of-requires : tie.Need-size-of-requires
+size-of-requires c κs = search needs
+
 returns : tie.Need-returns
-returns c = ap (λ (n : ℕ). leb n 1) (sym (size-ones (c .args .m)))
+returns c = ap (λ (n : ℕ). leb n 1) (c .size-of .ensures)
 
 pub few-spec : {M : Type 1} → statement M
-few-spec = tie.close (tie.spec returns)
+few-spec = tie.close (tie.spec size-of-requires returns)

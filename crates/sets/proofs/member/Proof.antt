@@ -1,7 +1,6 @@
 -- `sets::member` meets its contract: past the mask's width there is no member.
 use mathlib.Core.Path.{sym, ap}
 use Prim.Native.Nat.{ℕ}
-use native.Mathlib.Omega.{arith}
 use lib.Dec.{eqb}
 use borrow.Author.Needs.{needs}
 use Rattle.sets.proofs.Members.{has-high}

@@ -1,6 +1,5 @@
 -- `cards::checks::dichotomies_within` meets its contract: the entries still to come decide as all of them do.
 use mathlib.Core.Path.{_≡_, refl, sym, _∙_}
-use mathlib.Core.Bool.{true, false}
 use Prim.Native.Nat.{_≤_, _-_}
 use native.Mathlib.Omega.{arith}
 use lib.ListN.{length, drop, length-map}

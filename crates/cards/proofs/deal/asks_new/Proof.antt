@@ -20,28 +20,28 @@ cast-size c = search needs
 returns : tie.Need-returns
 returns c =
     let m = c .before in
-    let a = m .before .args in
+    let a = m .before .before .args in
     let small : leb 2 (size (a .g)) ≡ false = lt-leb 2 (size (a .g)) (omega (arith, m .size-of .ensures)) in
-    sym (asks-each (a .t .head .states) (a .g) (earlierGroups (a .t .table) (a .r)) small refl)
+    sym (asks-each (a .n) (a .g) (earlierGroups (a .groups .now) (a .r)) small refl)
 
 returns-2 : tie.Need-returns-2
 returns-2 c =
-    let m = c .before .before .before in
-    let a = m .before .args in
+    let m = c .before .before in
+    let a = m .before .before .args in
     let some : leb 2 (size (a .g)) ≡ true = le-leb 2 (size (a .g)) (omega (arith, m .size-of .ensures)) in
-    let whole : ltb (size (a .g)) (a .t .head .states) ≡ false = le-ltb (size (a .g)) (a .t .head .states) (omega (arith, m .size-of .ensures)) in
-    sym (asks-each (a .t .head .states) (a .g) (earlierGroups (a .t .table) (a .r)) some whole)
+    let whole : ltb (size (a .g)) (a .n) ≡ false = le-ltb (size (a .g)) (a .n) (omega (arith, m .size-of .ensures)) in
+    sym (asks-each (a .n) (a .g) (earlierGroups (a .groups .now) (a .r)) some whole)
 
 has-stood-requires : tie.Need-has-stood-requires
 has-stood-requires c κs = search needs
 
 returns-3 : tie.Need-returns-3
 returns-3 c =
-    let m = c .before .before .before .before in
-    let a = m .before .args in
+    let m = c .before .before .before in
+    let a = m .before .before .args in
     let some : leb 2 (size (a .g)) ≡ true = le-leb 2 (size (a .g)) (omega (arith, m .size-of .ensures)) in
-    let part : ltb (size (a .g)) (a .t .head .states) ≡ true = lt-ltb (size (a .g)) (a .t .head .states) (omega (arith, m .size-of .ensures)) in
-    ap not (c .has-stood .ensures) ∙ sym (asks-each (a .t .head .states) (a .g) (earlierGroups (a .t .table) (a .r)) some part)
+    let part : ltb (size (a .g)) (a .n) ≡ true = lt-ltb (size (a .g)) (a .n) (omega (arith, m .size-of .ensures)) in
+    ap not (c .has-stood .ensures) ∙ sym (asks-each (a .n) (a .g) (earlierGroups (a .groups .now) (a .r)) some part)
 
 pub asks-new-spec : {M : Type 1} → statement M
 asks-new-spec =

@@ -6,8 +6,7 @@ use borrow.Author.Needs.{needs}
 use lib.ListN.{length, length-set, length-map, drop}
 use lib.Seq.{sets}
 use Rattle.rules.specs.Listing.{rowsOf}
-use Rattle.cards.specs.Cards.{groupPlace}
-use Rattle.cards.specs.BlockTable.{groupsOf}
+use Rattle.cards.specs.Cards.{groupPlace, groupsOf}
 use Rattle.cards.proofs.Laying.{groups-more, groups-none}
 use Rattle.cards.proofs.lay.groups.Statement.{statement}
 use Rattle.cards.proofs.lay.groups.Tie as tie

@@ -1,6 +1,6 @@
 -- `codes::sift::note` meets its contract.
 use lib.Seq.{set-out}
-use Rattle.passes.specs.Moves.{numberOf}
+use Rattle.shares.specs.Moves.{numberOf}
 use mathlib.Core.Path.{sym}
 use borrow.Author.Needs.{needs}
 use Rattle.codes.proofs.sift.note.Statement.{statement}
