@@ -13,7 +13,7 @@ use Rattle.rules.specs.declared.Requirement.{Requirement}
 use Rattle.rules.specs.declared.Listing.{Listing}
 use Rattle.cards.specs.Cards.{groupPlace, firstPlace, secondPlace, groupsOf, Laid}
 use Rattle.cards.specs.BlockTable.{alone, sides, laidOut, groupsIn}
-use Rattle.cards.proofs.Limits.{Within}
+use Rattle.fair.proofs.Limits.{Within}
 
 -- ---- a run of stores
 

@@ -8,11 +8,11 @@ use lib.ListN.{length, length-take}
 use Rattle.rules.specs.Listing.{dichotomiesOf}
 use Rattle.rules.specs.declared.Listing.{Listing}
 use Rattle.cards.specs.declared.Hand.{Hand}
-use Rattle.cards.specs.Fair.{fair}
+use Rattle.fair.specs.Fair.{fair}
 use Rattle.cards.specs.Cards.{allCards, cardsOf}
 use Rattle.cards.specs.BlockTable.{laidOut, groupsIn}
 use Rattle.cards.specs.DealtOut.{piled, dealtOut}
-use Rattle.cards.proofs.Limits.{Within}
+use Rattle.fair.proofs.Limits.{Within}
 use Rattle.cards.proofs.BlockTable.{groups-in}
 
 abbrev pub Out : Type 0

@@ -16,7 +16,7 @@ use Rattle.rules.proofs.Asked.{outside-not, outside-member, newGroup, groups-st
 use Rattle.shares.specs.Moves.{requirementOf, drawn}
 use Rattle.cards.specs.Cards.{groupPlace, firstPlace, secondPlace, Laid}
 use Rattle.cards.specs.Cards.{placed, withStates, pairCards, asksNew, rowCards, groupCards, dichotomyCards, groupsOf, cardsOf}
-use Rattle.cards.proofs.Limits.{Within}
+use Rattle.fair.proofs.Limits.{Within}
 
 -- ---- one card
 

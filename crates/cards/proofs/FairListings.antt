@@ -15,11 +15,11 @@ use Rattle.rules.proofs.Sound.{Sound, rows-length, row-of}
 use Rattle.rules.proofs.Most.{most-requirements}
 use Rattle.rules.proofs.Good.{AllGood, requirements-good}
 use Rattle.shares.specs.Moves.{numberOf, requirementOf, drawn}
-use Rattle.cards.specs.Fair.{fair}
+use Rattle.fair.specs.Fair.{fair}
 use Rattle.cards.specs.Cards.{Laid, cardsOf, numbered}
 use Rattle.cards.specs.Dealing.{most-cards}
 use Rattle.cards.specs.BlockTable.{laidOut}
-use Rattle.cards.proofs.Limits.{fair-grants, grants-fair}
+use Rattle.fair.proofs.Limits.{fair-grants, grants-fair}
 use Rattle.cards.proofs.BlockTable.{laid}
 use Rattle.cards.proofs.Numbers.{plain-cards, number-is, drawn-numbered}
 use Rattle.cards.proofs.Drawn.{cards-show}

@@ -12,7 +12,7 @@ use Rattle.rules.specs.declared.Row.{Row}
 use Rattle.rules.specs.declared.Requirement.{Requirement}
 use Rattle.cards.specs.Cards.{groupPlace, firstPlace, secondPlace, groupsOf}
 use Rattle.cards.specs.BlockTable.{alone, sides}
-use Rattle.cards.proofs.Tables.{entry, no-entry}
+use Rattle.fair.proofs.Tables.{entry, no-entry}
 use Rattle.cards.proofs.States.{states-more, states-none}
 
 -- one store, and those behind it

@@ -1,5 +1,3 @@
-pub mod Limits
-pub mod Tables
 pub mod Dealing
 pub mod States
 pub mod Rows

@@ -20,7 +20,7 @@ use Rattle.rules.specs.declared.Listing.{Listing}
 use Rattle.rules.proofs.Asked.{newGroup, groups-step}
 use Rattle.rules.proofs.SoundLines.{SoundPattern, SoundRow}
 use Rattle.rules.proofs.Sound.{Sound}
-use Rattle.cards.proofs.Limits.{Fair}
+use Rattle.fair.proofs.Limits.{Fair}
 
 -- ---- the twin
 

@@ -5,7 +5,7 @@ use Prim.Native.Nat.{ℕ}
 use lib.ListN.{length, drop}
 use Rattle.rules.specs.declared.Listing.{Listing}
 use Rattle.cards.specs.declared.Hand.{Hand}
-use Rattle.cards.specs.Fair.{fair}
+use Rattle.fair.specs.Fair.{fair}
 use Rattle.cards.specs.Cards.{cardsOf, numbered}
 use Rattle.cards.specs.BlockTable.{laidOut}
 

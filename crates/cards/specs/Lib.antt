@@ -1,4 +1,3 @@
-pub mod Fair
 pub mod Cards
 pub mod Dealing
 pub mod BlockTable

@@ -1,5 +1,4 @@
 // The requirements of a listing as cards, in order, over a table of its blocks.
-mod checks;
 mod deal;
 mod lay;
 
@@ -7,25 +6,12 @@ ghost use mathlib.Core.Path.{_≡_};
 ghost use mathlib.Core.Bool.{true};
 ghost use Prim.Native.Nat.{_≤_};
 ghost use lib.ListN.{length};
-ghost use Rattle.cards.specs.Fair.{withinLimits, fair};
+ghost use Rattle.fair.specs.Fair.{withinLimits};
 ghost use Rattle.cards.specs.Cards.{allCards};
 ghost use Rattle.cards.specs.Dealing.{Dealt, Room};
 ghost use Rattle.cards.specs.BlockTable.{laidOut, groupsIn};
 ghost use Rattle.cards.specs.DealtOut.{dealtOut};
 use rules::Listing;
-
-// Whether a listing is one that the encoder takes.
-fn is_fair(t: Listing) -> bool
-    ensures { λ r. ⌜ r ≡ fair t ⌝ }
-{
-    if !checks::within_limits(t) {
-        return false;
-    }
-    if !checks::groups_within(t) {
-        return false;
-    }
-    checks::dichotomies_within(t)
-}
 
 // The table of a listing's blocks. What is none of its places is left as it was.
 fn lay_blocks(t: Listing, blocks: &mut [u64])
@@ -59,7 +45,7 @@ pub enum Hand {
 pub fn deal_out(t: Listing, blocks: &mut [u64; 320], cards: &mut [u32; 4400]) -> Hand
     ensures { λ r. ⌜ (r, now (blocks .exit), now (cards .exit)) ≡ dealtOut t (now (blocks .entry)) (now (cards .entry)) ⌝ }
 {
-    if !is_fair(t) {
+    if !fair::is_fair(t) {
         return Hand::Unfair;
     }
     lay_blocks(t, blocks);

@@ -16,9 +16,9 @@ use Rattle.rules.specs.declared.Verdict.{Verdict}
 use Rattle.rules.specs.declared.Refusal.the-variants.{Limit, TooWide, Stalled}
 use Rattle.shares.specs.Moves.{drawn}
 use Rattle.shares.proofs.Ready.{Ready}
-use Rattle.cards.specs.Fair.{fair}
+use Rattle.fair.specs.Fair.{fair}
 use Rattle.cards.specs.Cards.{Laid, cardsOf, numbered}
-use Rattle.cards.proofs.Limits.{fair-grants}
+use Rattle.fair.proofs.Limits.{fair-grants}
 use Rattle.cards.proofs.Dealing.{numbered-length}
 use Rattle.cards.proofs.FairListings.{few-cards, few-requirements, good-requirements, as-many-cards, drawn-requirements, card-number}
 use Rattle.codes.specs.Encode.{most-asked, no-bit, noEncoding, encodedAs, encoded}

@@ -1,5 +1,4 @@
 pub mod Lists
-pub mod Sifting
 pub mod Live
 pub mod FirstMet
 pub mod Notes

@@ -11,8 +11,8 @@ use Rattle.rules.proofs.Masks.{met-mask}
 use Rattle.rules.proofs.Unmet.{unmetIn, unmet-length, left-met, left-unmet}
 use Rattle.rules.proofs.Good.{Good, AllGood, good-left}
 use Rattle.shares.specs.Moves.{requirementOf, drawn}
-use Rattle.codes.specs.Sift.{metCard, liveCards}
-use Rattle.codes.proofs.Sifting.{live-met, live-unmet}
+use Rattle.sift.specs.Sift.{metCard, liveCards}
+use Rattle.sift.proofs.Sifting.{live-met, live-unmet}
 
 -- a bit of the code behind the others
 pub code-next : (n : ℕ) (bits : List ℕ) (b : ℕ) (r : Requirement) → metByCode n (bits ++ (b ∷ [])) r ≡ (metByCode n bits r || met n r b)

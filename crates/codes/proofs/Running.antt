@@ -17,7 +17,7 @@ use Rattle.rules.proofs.Complement.{new-bit-lt}
 use Rattle.shares.specs.Moves.{requirementOf, drawn}
 use Rattle.shares.proofs.Ready.{Ready}
 use Rattle.passes.proofs.AllPasses.{Few, bit-few}
-use Rattle.codes.specs.Sift.{liveCards, sifted, noted}
+use Rattle.sift.specs.Sift.{liveCards, sifted, noted}
 use Rattle.codes.specs.Encode.{most-asked, no-bit}
 use Rattle.codes.specs.Build.{AddedBit, Begun, Done}
 use Rattle.codes.proofs.Live.{leftOf, left-all, left-count, left-good, left-next, live-count, live-drawn}

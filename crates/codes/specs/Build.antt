@@ -11,7 +11,7 @@ use Rattle.rules.specs.declared.Requirement.{Requirement}
 use Rattle.rules.specs.declared.Refusal.the-variants.{Stalled}
 use Rattle.shares.specs.Moves.{numberOf, drawn}
 use Rattle.shares.proofs.Ready.{Ready}
-use Rattle.codes.specs.Sift.{liveCards, sifted, noted}
+use Rattle.sift.specs.Sift.{liveCards, sifted, noted}
 use Rattle.codes.specs.Encode.{most-asked, no-bit, padded, metFirst}
 
 -- the next bit for some live cards, as number k, and what it makes of the cards and of the notes

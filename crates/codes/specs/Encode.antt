@@ -14,7 +14,7 @@ use Rattle.rules.specs.declared.Encoding.{Encoding}
 use Rattle.rules.specs.declared.Verdict.{Verdict}
 use Rattle.rules.specs.declared.Refusal.{Refusal}
 use Rattle.rules.specs.declared.Refusal.the-variants.{Limit}
-use Rattle.cards.specs.Fair.{fair}
+use Rattle.fair.specs.Fair.{fair}
 
 -- the most requirements, and what is noted for one that no bit meets
 abbrev pub most-asked : ℕ

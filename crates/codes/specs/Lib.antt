@@ -1,3 +1,2 @@
-pub mod Sift
 pub mod Encode
 pub mod Build

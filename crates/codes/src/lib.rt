@@ -6,7 +6,7 @@ ghost use lib.ListN.{length, replicate};
 ghost use lib.Dec.{eqb};
 ghost use Rattle.rules.specs.Limits.{most-bits};
 ghost use Rattle.rules.specs.Code.{coding};
-ghost use Rattle.cards.specs.Fair.{fair};
+ghost use Rattle.fair.specs.Fair.{fair};
 ghost use Rattle.cards.specs.Cards.{Laid, cardsOf, numbered};
 ghost use Rattle.rules.specs.OneBit.{complemented};
 ghost use Rattle.shares.specs.Moves.{drawn};
@@ -14,8 +14,6 @@ ghost use Rattle.shares.proofs.Ready.{Ready};
 ghost use Rattle.codes.specs.Encode.{metBy, noEncoding, encodedAs, encoded};
 ghost use Rattle.codes.specs.Build.{AddedBit, Begun, Outcome};
 ghost use Rattle.rules.specs.declared.Verdict.{Verdict};
-
-mod sift;
 
 // A bit of n states, complemented if state 0 has value 1; of more than 64 states the first 64.
 fn complement(n: usize, b: u64) -> u64

@@ -1,5 +1,4 @@
 // The reader of a whole listing: any bytes give the listing that they say, or the refusal and its line.
-mod conflict;
 mod says;
 
 ghost use mathlib.Core.Path.{_≡_};

@@ -7,14 +7,14 @@ use native.Mathlib.Omega.{arith}
 use borrow.Author.Needs.{needs}
 use borrow.Author.Tests.{not-true, not-false}
 use lib.ListN.{length, length-map}
-use Rattle.cards.specs.Fair.{fair}
+use Rattle.fair.specs.Fair.{fair}
 use Rattle.cards.specs.Cards.{allCards, cardsOf}
 use Rattle.cards.specs.Dealing.{Room}
 use Rattle.cards.specs.BlockTable.{groupsIn}
 use Rattle.cards.proofs.FairListings.{few-cards}
 use Rattle.cards.proofs.Dealing.{dealt-piled}
 use Rattle.cards.proofs.DealtOut.{dealt-unfair, dealt-cards, cards-in}
-use Rattle.cards.proofs.Limits.{within, fair-limits}
+use Rattle.fair.proofs.Limits.{within, fair-limits}
 use Rattle.cards.proofs.deal_out.Statement.{statement}
 use Rattle.cards.proofs.deal_out.Tie as tie
 

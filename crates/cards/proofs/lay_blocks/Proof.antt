@@ -7,7 +7,7 @@ use lib.Seq.{sets}
 use Rattle.cards.specs.Cards.{groupPlace, firstPlace, groupsOf}
 use Rattle.rules.specs.Listing.{rowsOf, dichotomiesOf}
 use Rattle.cards.specs.BlockTable.{sides, laidOut}
-use Rattle.cards.proofs.Limits.{within}
+use Rattle.fair.proofs.Limits.{within}
 use Rattle.cards.proofs.lay_blocks.Statement.{statement}
 use Rattle.cards.proofs.lay_blocks.Tie as tie
 
