@@ -13,7 +13,7 @@ use Rattle.rules.specs.declared.Row.{Row}
 use Rattle.rules.specs.declared.Listing.{Listing}
 use Rattle.rules.proofs.Runs.{Below}
 use Rattle.rules.proofs.Asked.{outside-not, outside-member, newGroup, groups-step}
-use Rattle.shares.specs.Moves.{requirementOf, drawn}
+use Rattle.moves.specs.Moves.{requirementOf, drawn}
 use Rattle.cards.specs.Cards.{groupPlace, firstPlace, secondPlace, Laid}
 use Rattle.cards.specs.Cards.{placed, withStates, pairCards, asksNew, rowCards, groupCards, dichotomyCards, groupsOf, cardsOf}
 use Rattle.fair.proofs.Limits.{Within}

@@ -10,7 +10,7 @@ use Rattle.rules.specs.Listing.{rowsOf, dichotomiesOf}
 use Rattle.rules.specs.Requirements.{asks, outside}
 use Rattle.rules.specs.declared.Requirement.{Requirement}
 use Rattle.rules.specs.declared.Listing.{Listing}
-use Rattle.shares.specs.Moves.{numberOf, drawn}
+use Rattle.moves.specs.Moves.{numberOf, drawn}
 use Rattle.cards.specs.Cards.{groupPlace, withStates, pairCards, asksNew, rowCards, groupCards, dichotomyCards, groupsOf, cardsOf, numbered}
 
 -- ---- cards without a number

@@ -11,8 +11,8 @@ use Rattle.rules.specs.OneBit.{Bit, newBit, passes as passesOf}
 use Rattle.rules.specs.Code.{Code, Coding, coded, uncoded, joined, build, unmetBy}
 use Rattle.rules.specs.declared.Requirement.{Requirement}
 use Rattle.rules.specs.declared.Refusal.the-variants.{Stalled}
-use Rattle.shares.proofs.Ready.{Ready, ready-left}
-use Rattle.passes.proofs.AllPasses.{Few, bit-few}
+use Rattle.moves.proofs.Ready.{Ready, ready-left}
+use Rattle.choice.proofs.AllPasses.{Few, bit-few}
 
 pub record FewIn (k : ℕ) (c : Code) : Type 0 where
   pub passes : c .passes ≤ k * 2 ^ 21

@@ -14,8 +14,8 @@ use Rattle.rules.specs.declared.Listing.{Listing}
 use Rattle.rules.specs.declared.Encoding.{Encoding}
 use Rattle.rules.specs.declared.Verdict.{Verdict}
 use Rattle.rules.specs.declared.Refusal.the-variants.{Limit, TooWide, Stalled}
-use Rattle.shares.specs.Moves.{drawn}
-use Rattle.shares.proofs.Ready.{Ready}
+use Rattle.moves.specs.Moves.{drawn}
+use Rattle.moves.proofs.Ready.{Ready}
 use Rattle.fair.specs.Fair.{fair}
 use Rattle.cards.specs.Cards.{Laid, cardsOf, numbered}
 use Rattle.fair.proofs.Limits.{fair-grants}

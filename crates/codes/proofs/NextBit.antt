@@ -6,11 +6,11 @@ use native.Mathlib.Omega.{arith}
 use lib.ListN.{length, getD}
 use Rattle.rules.specs.OneBit.{start, passes, complemented, newBit}
 use Rattle.rules.specs.declared.Requirement.{Requirement}
-use Rattle.shares.specs.Moves.{secondOf, drawn}
-use Rattle.passes.specs.Pass.{builtBy}
-use Rattle.passes.specs.declared.Built.{Built}
-use Rattle.shares.proofs.Ready.{Ready}
-use Rattle.passes.proofs.AllPasses.{Same, built-same}
+use Rattle.moves.specs.Moves.{secondOf, drawn}
+use Rattle.choice.specs.Pass.{builtBy}
+use Rattle.choice.specs.declared.Built.{Built}
+use Rattle.moves.proofs.Ready.{Ready}
+use Rattle.choice.proofs.AllPasses.{Same, built-same}
 
 -- a bit starts from the second block of the first live card
 start-drawn : (blocks cards : List ℕ) → 0 < length cards → secondOf blocks (getD cards 0 0) ≡ start (drawn blocks cards)

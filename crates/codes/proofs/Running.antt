@@ -14,9 +14,9 @@ use Rattle.rules.specs.declared.Requirement.{Requirement}
 use Rattle.rules.specs.declared.Refusal.the-variants.{Stalled}
 use Rattle.rules.proofs.Good.{start-lt}
 use Rattle.rules.proofs.Complement.{new-bit-lt}
-use Rattle.shares.specs.Moves.{requirementOf, drawn}
-use Rattle.shares.proofs.Ready.{Ready}
-use Rattle.passes.proofs.AllPasses.{Few, bit-few}
+use Rattle.moves.specs.Moves.{requirementOf, drawn}
+use Rattle.moves.proofs.Ready.{Ready}
+use Rattle.choice.proofs.AllPasses.{Few, bit-few}
 use Rattle.sift.specs.Sift.{liveCards, sifted, noted}
 use Rattle.codes.specs.Encode.{most-asked, no-bit}
 use Rattle.codes.specs.Build.{AddedBit, Begun, Done}

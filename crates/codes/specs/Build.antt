@@ -9,8 +9,8 @@ use Rattle.rules.specs.OneBit.{newBit}
 use Rattle.rules.specs.Code.{Code, Coding, coded, uncoded, build, unmetFrom}
 use Rattle.rules.specs.declared.Requirement.{Requirement}
 use Rattle.rules.specs.declared.Refusal.the-variants.{Stalled}
-use Rattle.shares.specs.Moves.{numberOf, drawn}
-use Rattle.shares.proofs.Ready.{Ready}
+use Rattle.moves.specs.Moves.{numberOf, drawn}
+use Rattle.moves.proofs.Ready.{Ready}
 use Rattle.sift.specs.Sift.{liveCards, sifted, noted}
 use Rattle.codes.specs.Encode.{most-asked, no-bit, padded, metFirst}
 

@@ -9,8 +9,8 @@ ghost use Rattle.rules.specs.Code.{coding};
 ghost use Rattle.fair.specs.Fair.{fair};
 ghost use Rattle.cards.specs.Cards.{Laid, cardsOf, numbered};
 ghost use Rattle.rules.specs.OneBit.{complemented};
-ghost use Rattle.shares.specs.Moves.{drawn};
-ghost use Rattle.shares.proofs.Ready.{Ready};
+ghost use Rattle.moves.specs.Moves.{drawn};
+ghost use Rattle.moves.proofs.Ready.{Ready};
 ghost use Rattle.codes.specs.Encode.{metBy, noEncoding, encodedAs, encoded};
 ghost use Rattle.codes.specs.Build.{AddedBit, Begun, Outcome};
 ghost use Rattle.rules.specs.declared.Verdict.{Verdict};
@@ -58,7 +58,7 @@ fn add_bit(blocks: &[u64], cards: &mut [u32], by: &mut [u8], n: usize, k: u8) ->
     requires { ⌜ Ready n (drawn (now blocks) (now cards)) × (0 < length (now cards)) ⌝ }
     ensures { λ r. ⌜ AddedBit (now (blocks .entry)) n k (now (cards .entry)) (now (by .entry)) (r .bit) (r .left) (r .passes) (r .looks) (now (cards .exit)) (now (by .exit)) ⌝ }
 {
-    let start = shares::second_of(blocks, cards[0]);
+    let start = moves::second_of(blocks, cards[0]);
     let built = passes::build_bit(blocks, cards, n, start);
     let b = complement(n, built.bit);
     let left = sift::sift(blocks, b, k, cards, by);

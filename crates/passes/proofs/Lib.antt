@@ -1,10 +1,3 @@
-pub mod Highest
-pub mod OneMove
-pub mod Tally
-pub mod Better
-pub mod OnePass
-pub mod AllPasses
-pub mod Ahead
 pub mod Picked
 pub mod Without
 pub mod Indexed

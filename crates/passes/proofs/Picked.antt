@@ -18,9 +18,9 @@ use Rattle.sets.proofs.Size.{size-flip}
 use Rattle.sets.proofs.LowestMember.{lowest-at, lowest-least, without-at}
 use Rattle.rules.specs.declared.Requirement.{Requirement}
 use Rattle.shares.specs.Table.{shared, unshared, lookMask, stepped}
-use Rattle.shares.specs.Moves.{firstOf, secondOf, requirementOf, drawn, moved, looked}
+use Rattle.moves.specs.Moves.{firstOf, secondOf, requirementOf, drawn, moved, looked}
 use Rattle.passes.specs.Index.{membersOf, membersIn, Marks}
-use Rattle.shares.proofs.Lists.{looked-most, none-has}
+use Rattle.moves.proofs.Lists.{looked-most, none-has}
 use Rattle.passes.proofs.Indexed.{map-at}
 
 -- ---- those of a list whose digits are 1

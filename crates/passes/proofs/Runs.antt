@@ -9,7 +9,7 @@ use lib.Seq.{take-all, getD-take, getD-drop, drop-drop}
 use Rattle.sets.specs.Sets.{has}
 use Rattle.rules.specs.declared.Requirement.{Requirement}
 use Rattle.shares.specs.Table.{stepped}
-use Rattle.shares.specs.Moves.{requirementOf, drawn, moved, looked}
+use Rattle.moves.specs.Moves.{requirementOf, drawn, moved, looked}
 use Rattle.passes.specs.Index.{membersOf, membersIn, Marks, Index}
 use Rattle.passes.proofs.Indexed.{map-at}
 

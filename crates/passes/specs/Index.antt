@@ -7,7 +7,7 @@ use lib.Bits.{bitOr}
 use lib.Dec.{eqb}
 use lib.ListN.{length, getD}
 use Rattle.sets.specs.Sets.{has, flip, everyone}
-use Rattle.shares.specs.Moves.{firstOf, secondOf}
+use Rattle.moves.specs.Moves.{firstOf, secondOf}
 
 -- the members of the requirement of a card
 abbrev pub membersOf : List ℕ → ℕ → ℕ

@@ -1,11 +1,8 @@
 // The index of a list of cards: for each state and each run of 64 cards a word that says which of the run have the state. The words of the run
 // that begins with card `at` begin with word `at` and are as many, so cards and words are gone through in step.
-use shares::first_of;
-use shares::move_all;
-use shares::near_at;
-use shares::second_of;
-use shares::share;
-use shares::unshare;
+use moves::first_of;
+use moves::move_all;
+use moves::second_of;
 ghost use mathlib.Core.Path.{_≡_};
 ghost use mathlib.Core.Bool.{cond};
 ghost use Prim.Native.Nat.{_+_, _<_, _≤_, _%_, min};
@@ -13,7 +10,7 @@ ghost use lib.Bits.{bitOr};
 ghost use lib.ListN.{length, getD, set, replicate};
 ghost use Rattle.sets.specs.Sets.{has, flip};
 ghost use Rattle.shares.specs.Table.{lookMask, stepped};
-ghost use Rattle.shares.specs.Moves.{firstOf, secondOf, drawn, moved, looked};
+ghost use Rattle.moves.specs.Moves.{firstOf, secondOf, drawn, moved, looked};
 ghost use Rattle.passes.specs.Index.{membersOf, membersIn, allBut, Marks, Turned, Index};
 
 // The members of the requirement of a card.
@@ -77,9 +74,8 @@ fn look_member(f: u64, g: u64, b: u64, a: u64, s: usize, others: u64, t: &mut [u
     requires { ⌜ (s < 64) × (a ≡ flip b s) × (others ≡ allBut s) × (has (bitOr f g) s ≡ 1) ⌝ }
     ensures { λ r. ⌜ (r ≡ cond (lookMask f g b a s) 1 0) × (now (t .exit) ≡ stepped f g b a s (now (t .entry))) ⌝ }
 {
-    if near_at(f & others, g & others, b) {
-        unshare(f, g, b, t);
-        share(f, g, a, t);
+    if shares::near_at(f & others, g & others, b) {
+        shares::reshare(f, g, b, a, t);
         return 1;
     }
     0

@@ -1,12 +1,18 @@
 // One bit, by gain tables: a move touches only the requirements that have the moved state, and their members alone.
 mod index;
 
+use choice::Built;
+use choice::Passed;
+use choice::Way;
+use choice::best_of;
+use choice::choose;
+use choice::reach;
 ghost use mathlib.Core.Path.{_≡_};
 ghost use Prim.Native.Nat.{_+_, _<_, _≤_, _%_};
 ghost use lib.ListN.{length};
-ghost use Rattle.shares.specs.Moves.{drawn};
+ghost use Rattle.moves.specs.Moves.{drawn};
 ghost use Rattle.passes.specs.Index.{membersIn, Index};
-ghost use Rattle.passes.specs.Pass.{highest, reached, bestOf, going, goOn, passed, passesBy, tallied, builtBy};
+ghost use Rattle.choice.specs.Pass.{going, goOn, passed, passesBy, tallied, builtBy};
 
 // How many cards an index has room for: few, some, or all that a listing can ask for. Of more cards those beyond it are visited in every move.
 const FEW: usize = 64;
@@ -14,74 +20,6 @@ const FEW: usize = 64;
 const SOME: usize = 512;
 
 const MANY: usize = 4416;
-
-// What a pass keeps: the bit, its level (that of a gain of 0 where nothing was gained), and the looks of all its moves.
-pub struct Passed {
-    pub bit: u64,
-    pub level: u32,
-    pub looks: u64,
-}
-
-// A pass on its way, beside its table: the bit, who is free, the level reached, and the best so far.
-pub struct Way {
-    pub bit: u64,
-    pub free: u64,
-    pub level: u32,
-    pub best: Passed,
-}
-
-// A bit that is done, the passes begun for it, and their looks.
-pub struct Built {
-    pub bit: u64,
-    pub passes: u64,
-    pub looks: u64,
-}
-
-// The free state below n with the highest level, the lowest number on ties. It works from the table as it stands, and visits the free states alone.
-fn choose(n: usize, free: u64, t: &[u32]) -> usize
-    ensures { λ r. ⌜ r ≡ highest free (now (t .entry)) n ⌝ }
-{
-    let all = free & sets::everyone_of(n);
-    if all == 0 {
-        return 0;
-    }
-    let mut r = sets::lowest(all);
-    let mut rest = sets::without_lowest(all);
-    while rest != 0 {
-        let i = sets::lowest(rest);
-        if shares::level_at(t, r) < shares::level_at(t, i) {
-            r = i;
-        }
-        rest = sets::without_lowest(rest);
-    }
-    r
-}
-
-// The best so far, or what is met now if that is more.
-fn best_of(p: Passed, b: u64, now: u32, looks: u64) -> Passed
-    ensures { λ r. ⌜ r ≡ bestOf p b now looks ⌝ }
-{
-    let sum = std::num::wrapping_add_u64(p.looks, looks);
-    if p.level < now {
-        return Passed {
-            bit: b,
-            level: now,
-            looks: sum,
-        };
-    }
-    Passed {
-        bit: p.bit,
-        level: p.level,
-        looks: sum,
-    }
-}
-
-// The level reached by a move of this level: what a gain of 0 has is taken off once.
-fn reach(now: u32, gain: u32) -> u32
-    ensures { λ r. ⌜ r ≡ reached now gain ⌝ }
-{
-    (((now as u64) + (gain as u64) + 2147483648) % 4294967296) as u32
-}
 
 // One move of a pass over n states.
 fn go_on(blocks: &[u64], cards: &[u32], index: &[u64], n: usize, w: Way, t: &mut [u32]) -> Way
@@ -92,7 +30,7 @@ fn go_on(blocks: &[u64], cards: &[u32], index: &[u64], n: usize, w: Way, t: &mut
     let free = w.free;
     let s = choose(n, free, t);
     let a = sets::flipped(b, s);
-    let level = reach(w.level, shares::level_at(t, s));
+    let level = reach(w.level, moves::level_at(t, s));
     let looks = index::move_marked(blocks, cards, index, b, a, s, t);
     let best = w.best;
     Way {
@@ -109,7 +47,7 @@ fn run_pass(blocks: &[u64], cards: &[u32], index: &[u64], n: usize, b: u64) -> P
     ensures { λ r. ⌜ r ≡ passed n (drawn (now (blocks .entry)) (now (cards .entry))) b ⌝ }
 {
     let mut t = [shares::LEVEL; 64];
-    shares::fill(blocks, cards, b, &mut t);
+    moves::fill(blocks, cards, b, &mut t);
     let none = Passed {
         bit: b,
         level: shares::LEVEL,

@@ -20,7 +20,7 @@ use Rattle.rules.specs.declared.Refusal.the-variants.{TooWide}
 use Rattle.rules.proofs.Sound.{Sound}
 use Rattle.rules.proofs.Most.{most-requirements}
 use Rattle.rules.proofs.Built.{built}
-use Rattle.shares.proofs.Ready.{sound-ready}
+use Rattle.moves.proofs.Ready.{sound-ready}
 use Rattle.cards.proofs.FairListings.{sound-fair}
 use Rattle.codes.specs.Encode.{most-asked, no-bit, padded, metFirst, encodedAs, encoded}
 use Rattle.codes.proofs.Lists.{map-at, padded-length}

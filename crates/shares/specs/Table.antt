@@ -21,14 +21,17 @@ unfoldable pub raised : ℕ → ℕ → ℕ → List ℕ → List ℕ
 raised by m k [] = []
 raised by m k (v ∷ vs) = cond (eqb (has m k) 1) ((v + by) % 2 ^ 32) v ∷ raised by m (suc k) vs
 
--- what a requirement with the blocks f and g adds at the bit b, and taking it off
-unfoldable pub shared : ℕ → ℕ → ℕ → List ℕ → List ℕ
+-- with `made` added where a flip makes the requirement with the blocks f and g met at the bit b, `broken` where it breaks it
+unfoldable pub weighed : ℕ → ℕ → ℕ → ℕ → ℕ → List ℕ → List ℕ
 unfolding raised makes breaks
-shared f g b t = raised 1 (makes (wrong f g b) (wrong g f b)) 0 (raised less (breaks (wrong f g b) (wrong g f b)) 0 t)
+weighed made broken f g b t = raised made (makes (wrong f g b) (wrong g f b)) 0 (raised broken (breaks (wrong f g b) (wrong g f b)) 0 t)
 
-unfoldable pub unshared : ℕ → ℕ → ℕ → List ℕ → List ℕ
-unfolding raised makes breaks
-unshared f g b t = raised less (makes (wrong f g b) (wrong g f b)) 0 (raised 1 (breaks (wrong f g b) (wrong g f b)) 0 t)
+-- what the requirement adds at the bit b, and taking it off
+abbrev pub shared : ℕ → ℕ → ℕ → List ℕ → List ℕ
+shared f g b t = weighed 1 less f g b t
+
+abbrev pub unshared : ℕ → ℕ → ℕ → List ℕ → List ℕ
+unshared f g b t = weighed less 1 f g b t
 
 -- the move of s, from the bit b to the bit a, looks at the requirement
 unfoldable pub lookMask : ℕ → ℕ → ℕ → ℕ → ℕ → Bool
@@ -37,5 +40,5 @@ lookMask f g b a s = eqb (has (bitOr f g) s) 1 && (nearMask f g b || nearMask f 
 
 -- the table after the move, for one requirement: changed only where the move looks
 unfoldable pub stepped : ℕ → ℕ → ℕ → ℕ → ℕ → List ℕ → List ℕ
-unfolding lookMask shared unshared
+unfolding lookMask weighed
 stepped f g b a s t = cond (lookMask f g b a s) (shared f g a (unshared f g b t)) t

@@ -1,11 +1,9 @@
-// What requirements add to the gain table: a share at each member, put on and taken off, over cards that name two blocks each.
+// What one requirement adds to the gain table: a share at each member, put on and taken off.
 ghost use mathlib.Core.Path.{_≡_};
-ghost use mathlib.Core.Bool.{cond};
-ghost use Prim.Native.Nat.{_+_, _<_, _%_, _^_};
+ghost use Prim.Native.Nat.{_+_, _%_, _^_};
 ghost use lib.ListN.{set, getD};
 ghost use Rattle.sets.specs.Blocks.{wrong, settled, lone, metMask, nearMask, makes, breaks};
-ghost use Rattle.shares.specs.Table.{raised, shared, unshared, lookMask, stepped};
-ghost use Rattle.shares.specs.Moves.{firstOf, secondOf, drawn, filled, moved, looked};
+ghost use Rattle.shares.specs.Table.{raised, weighed, shared, unshared};
 
 // A level of the gain table for a gain of 0, far from both ends of its 32 digits, and what takes 1 off modulo 2 ^ 32.
 pub const LEVEL: u32 = 2147483648;
@@ -107,124 +105,27 @@ pub fn met_at(f: u64, g: u64, b: u64) -> bool
     settled_at(wrong_of(f, g, b), wrong_of(g, f, b))
 }
 
+// `made` added at each state whose flip makes the requirement met at the bit b, `broken` at each whose flip breaks it.
+fn weigh(f: u64, g: u64, b: u64, made: u32, broken: u32, t: &mut [u32])
+    ensures { λ r. ⌜ now (t .exit) ≡ weighed made broken f g b (now (t .entry)) ⌝ }
+{
+    let x = wrong_of(f, g, b);
+    let y = wrong_of(g, f, b);
+    raise(t, breaks_of(x, y), broken);
+    raise(t, makes_of(x, y), made);
+}
+
 // What the requirement adds to the table at the bit b.
 pub fn share(f: u64, g: u64, b: u64, t: &mut [u32])
     ensures { λ r. ⌜ now (t .exit) ≡ shared f g b (now (t .entry)) ⌝ }
 {
-    let x = wrong_of(f, g, b);
-    let y = wrong_of(g, f, b);
-    raise(t, breaks_of(x, y), LESS);
-    raise(t, makes_of(x, y), 1);
+    weigh(f, g, b, 1, LESS, t)
 }
 
-// The same taken off.
-pub fn unshare(f: u64, g: u64, b: u64, t: &mut [u32])
-    ensures { λ r. ⌜ now (t .exit) ≡ unshared f g b (now (t .entry)) ⌝ }
+// What it adds at the bit b taken off, and what it adds at the bit a put on.
+pub fn reshare(f: u64, g: u64, b: u64, a: u64, t: &mut [u32])
+    ensures { λ r. ⌜ now (t .exit) ≡ shared f g a (unshared f g b (now (t .entry))) ⌝ }
 {
-    let x = wrong_of(f, g, b);
-    let y = wrong_of(g, f, b);
-    raise(t, breaks_of(x, y), 1);
-    raise(t, makes_of(x, y), LESS);
-}
-
-// Whether the move of s from the bit b to the bit a looks at the requirement.
-fn looks_at(f: u64, g: u64, b: u64, a: u64, s: usize) -> bool
-    ensures { λ r. ⌜ r ≡ lookMask f g b a s ⌝ }
-{
-    if !sets::member(f | g, s) {
-        return false;
-    }
-    if near_at(f, g, b) {
-        return true;
-    }
-    near_at(f, g, a)
-}
-
-// The move, for one requirement: the table changes only where it looks; the answer is 1 for a look.
-fn look_at(f: u64, g: u64, b: u64, a: u64, s: usize, t: &mut [u32]) -> usize
-    ensures { λ r. ⌜ (r ≡ cond (lookMask f g b a s) 1 0) × (now (t .exit) ≡ stepped f g b a s (now (t .entry))) ⌝ }
-{
-    if looks_at(f, g, b, a, s) {
-        unshare(f, g, b, t);
-        share(f, g, a, t);
-        return 1;
-    }
-    0
-}
-
-// Block k of the table, none where it has not so many.
-fn block_at(blocks: &[u64], k: usize) -> u64
-    ensures { λ r. ⌜ r ≡ getD (now (blocks .entry)) k 0 ⌝ }
-{
-    if k < blocks.len() {
-        return blocks[k];
-    }
-    0
-}
-
-// The blocks of a card.
-pub fn first_of(blocks: &[u64], card: u32) -> u64
-    ensures { λ r. ⌜ r ≡ firstOf (now (blocks .entry)) card ⌝ }
-{
-    let k = (card / 16384 % 512) as usize;
-    block_at(blocks, k)
-}
-
-pub fn second_of(blocks: &[u64], card: u32) -> u64
-    ensures { λ r. ⌜ r ≡ secondOf (now (blocks .entry)) card ⌝ }
-{
-    let k = (card / 8388608 % 512) as usize;
-    block_at(blocks, k)
-}
-
-// What the requirement of a card adds at the bit b.
-fn share_card(blocks: &[u64], card: u32, b: u64, t: &mut [u32])
-    ensures { λ r. ⌜ now (t .exit) ≡ shared (firstOf (now (blocks .entry)) card) (secondOf (now (blocks .entry)) card) b (now (t .entry)) ⌝ }
-{
-    let f = first_of(blocks, card);
-    let g = second_of(blocks, card);
-    share(f, g, b, t)
-}
-
-// What every requirement of a list of cards adds.
-pub fn fill(blocks: &[u64], cards: &[u32], b: u64, t: &mut [u32])
-    ensures { λ r. ⌜ now (t .exit) ≡ filled (drawn (now (blocks .entry)) (now (cards .entry))) b (now (t .entry)) ⌝ }
-{
-    let mut i: usize = 0;
-    while i < cards.len() {
-        share_card(blocks, cards[i], b, t);
-        i += 1;
-    }
-}
-
-// The move, for the requirement of a card.
-fn look_card(blocks: &[u64], card: u32, b: u64, a: u64, s: usize, t: &mut [u32]) -> usize
-    ensures { λ r. ⌜ (r ≡ cond (lookMask (firstOf (now (blocks .entry)) card) (secondOf (now (blocks .entry)) card) b a s) 1 0) × (now (t .exit) ≡ stepped (firstOf (now (blocks .entry)) card) (secondOf (now (blocks .entry)) card) b a s (now (t .entry))) ⌝ }
-{
-    let f = first_of(blocks, card);
-    let g = second_of(blocks, card);
-    look_at(f, g, b, a, s, t)
-}
-
-// The move, for every requirement of a list of cards; the answer is how many it looks at.
-pub fn move_all(blocks: &[u64], cards: &[u32], b: u64, a: u64, s: usize, t: &mut [u32]) -> usize
-    ensures { λ r. ⌜ (r ≡ looked (drawn (now (blocks .entry)) (now (cards .entry))) b a s) × (now (t .exit) ≡ moved (drawn (now (blocks .entry)) (now (cards .entry))) b a s (now (t .entry))) ⌝ }
-{
-    let mut looks: usize = 0;
-    let mut i: usize = 0;
-    while i < cards.len() {
-        looks += look_card(blocks, cards[i], b, a, s, t);
-        i += 1;
-    }
-    looks
-}
-
-// The level of state k.
-pub fn level_at(t: &[u32], k: usize) -> u32
-    ensures { λ r. ⌜ r ≡ getD (now (t .entry)) k 0 ⌝ }
-{
-    if k < t.len() {
-        return t[k];
-    }
-    0
+    weigh(f, g, b, LESS, 1, t);
+    share(f, g, a, t);
 }

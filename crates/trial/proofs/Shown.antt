@@ -16,7 +16,7 @@ use Rattle.rules.specs.Trial.{paired, startable}
 use Rattle.rules.specs.declared.Requirement.{Requirement}
 use Rattle.rules.specs.declared.StateNumber.{StateNumber}
 use Rattle.shares.specs.Table.{level}
-use Rattle.shares.proofs.Looks.{looked-looks}
+use Rattle.moves.proofs.Looks.{looked-looks}
 use Rattle.trial.specs.declared.Trial.{Trial}
 use Rattle.trial.specs.declared.Answer.{Answer}
 use Rattle.trial.specs.Record.{taken, turnedDown, none, shown, startOf, askedOf, movable, nextOf, moveOf, gainOf}

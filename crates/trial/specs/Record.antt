@@ -14,7 +14,7 @@ use Rattle.rules.specs.declared.StateNumber.{StateNumber}
 use Rattle.rules.specs.declared.Verdict.{Verdict}
 use Rattle.rules.specs.declared.Refusal.the-variants.{BadCall}
 use Rattle.shares.specs.Table.{level}
-use Rattle.shares.specs.Moves.{drawn, filled, moved, looked}
+use Rattle.moves.specs.Moves.{drawn, filled, moved, looked}
 use Rattle.trial.specs.declared.Trial.{Trial}
 use Rattle.trial.specs.declared.Answer.{Answer}
 

@@ -9,7 +9,7 @@ ghost use lib.Seq.{sets};
 ghost use Rattle.rules.specs.Cases.{verdictNumbers};
 ghost use Rattle.rules.specs.Trial.{within, paired, allSound, startable};
 ghost use Rattle.shares.specs.Table.{level};
-ghost use Rattle.shares.specs.Moves.{drawn, filled};
+ghost use Rattle.moves.specs.Moves.{drawn, filled};
 ghost use Rattle.trial.specs.Record.{cardOf, deck, blocksOf, taken, turnedDown, none, shown, startOf, movable, nextOf, moveOf, gainOf};
 
 // A trial record: n states, how many requirements it lists, the bit, the states that have moved, the looks so far. Of the blocks the first
@@ -150,7 +150,7 @@ fn levels_at(blocks: &[u64], cards: &[u32], b: u64) -> [u32; 64]
     ensures { λ r. ⌜ r ≡ filled (drawn (now (blocks .entry)) (now (cards .entry))) b (replicate 64 level) ⌝ }
 {
     let mut t = [shares::LEVEL; 64];
-    shares::fill(blocks, cards, b, &mut t);
+    moves::fill(blocks, cards, b, &mut t);
     t
 }
 
@@ -237,7 +237,7 @@ fn next_of(t: Trial, s: usize) -> Trial
     let cards = t.cards;
     let mut table = t.table;
     let after = sets::flipped(bit, s);
-    let looks = shares::move_all(&blocks, &cards[..count], bit, after, s, &mut table);
+    let looks = moves::move_all(&blocks, &cards[..count], bit, after, s, &mut table);
     Trial {
         states: t.states,
         count,
@@ -281,7 +281,7 @@ impl Trial {
             return 0;
         }
         let t = self.table;
-        (shares::level_at(&t, k) as i64) - (shares::LEVEL as i64)
+        (moves::level_at(&t, k) as i64) - (shares::LEVEL as i64)
     }
 
     // The looks so far.

@@ -1,5 +1,5 @@
 -- `passes::build_by` meets its contract.
-use Rattle.passes.proofs.Tally.{built-is}
+use Rattle.choice.proofs.Tally.{built-is}
 use mathlib.Core.Path.{_∙_}
 use native.Mathlib.Omega.{arith}
 use borrow.Author.Needs.{needs}

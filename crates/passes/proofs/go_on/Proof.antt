@@ -1,6 +1,6 @@
 -- `passes::go_on` meets its contract.
-use Rattle.shares.specs.Moves.{drawn}
-use Rattle.passes.proofs.OneMove.{chosen-lt, go-on}
+use Rattle.moves.specs.Moves.{drawn}
+use Rattle.choice.proofs.OneMove.{chosen-lt, go-on}
 use borrow.Author.Needs.{needs}
 use Rattle.passes.proofs.go_on.Statement.{statement}
 use Rattle.passes.proofs.go_on.Tie as tie

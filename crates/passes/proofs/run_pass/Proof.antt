@@ -2,9 +2,9 @@
 use mathlib.Core.Path.{ap₂}
 use Rattle.sets.specs.Sets.{everyone}
 use Rattle.shares.specs.Table.{level}
-use Rattle.shares.specs.Moves.{drawn}
-use Rattle.passes.specs.Pass.{Going, going, goMoves, passed}
-use Rattle.passes.proofs.OneMove.{moves-start, moves-more, moves-end}
+use Rattle.moves.specs.Moves.{drawn}
+use Rattle.choice.specs.Pass.{Going, going, goMoves, passed}
+use Rattle.choice.proofs.OneMove.{moves-start, moves-more, moves-end}
 use Prim.Native.Nat.{ℕ, _≤_, _-_, _+_, min}
 use mathlib.Core.Path.{_≡_, sym, ap, _∙_}
 use mathlib.Core.List.{List}

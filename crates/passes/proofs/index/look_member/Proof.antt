@@ -10,24 +10,21 @@ use Rattle.passes.proofs.index.look_member.Tie as tie
 near-at-requires : tie.Need-near-at-requires
 near-at-requires c κs = search needs
 
-unshare-requires : tie.Need-unshare-requires
-unshare-requires c κs = search needs
-
-share-requires : tie.Need-share-requires
-share-requires c κs = search needs
+reshare-requires : tie.Need-reshare-requires
+reshare-requires c κs = search needs
 
 same-length : tie.Need-same-length
 same-length c = search needs
 
 returns : tie.Need-returns
 unfolding stepped
-returns c = let n = c .before .before .before .before .before .before .before .before .before in
+returns c = let n = c .before .before .before .before .before in
     let i = n .before .before in
     let a = i .args in
     let e : lookMask (a .f) (a .g) (a .b) (a .a) (a .s) ≡ true =
     sym (look-member (a .f) (a .g) (a .b) (a .a) (a .s) (a .others)
     (i .fits .f .fits) (i .fits .g .fits) (i .pre .0) (i .pre .3) (i .pre .1) (i .pre .2))
-    ∙ sym (n .near-at .ensures) ∙ c .before .before .before .before .before .before .before .before .if1 .taken in
+    ∙ sym (n .near-at .ensures) ∙ c .before .before .before .before .if1 .taken in
     (rw e, rw e (cc))
 
 returns-2 : tie.Need-returns-2
@@ -43,4 +40,4 @@ returns-2 c = let i = c .before .before .before in
 pub look-member-spec : {M : Type 1} → statement M
 look-member-spec =
     tie.close
-    (tie.spec near-at-requires unshare-requires share-requires same-length returns returns-2)
+    (tie.spec near-at-requires reshare-requires same-length returns returns-2)

@@ -1,6 +1,6 @@
 -- `passes::index::move_marked` meets its contract: what is left of the list is still to be moved, and its looks are still to be counted.
-use Rattle.shares.specs.Moves.{drawn, moved, looked}
-use Rattle.shares.proofs.Lists.{looked-most}
+use Rattle.moves.specs.Moves.{drawn, moved, looked}
+use Rattle.moves.proofs.Lists.{looked-most}
 use Rattle.passes.proofs.Runs.{rest-all, moved-run, looked-run, marks-run}
 use Prim.Native.Nat.{_%_}
 use Prim.Native.Nat.{ℕ, _≤_, _<_, _-_, _+_}

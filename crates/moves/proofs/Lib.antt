@@ -1,0 +1,4 @@
+pub mod Lists
+pub mod Ready
+pub mod Looks
+pub mod Shows
