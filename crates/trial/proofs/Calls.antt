@@ -22,7 +22,7 @@ use Rattle.rules.proofs.TrialRuns as runs
 use Rattle.rules.proofs.TrialRuns.{Moved, calls-moved, gain-true}
 use Rattle.trial.specs.declared.Trial.{Trial}
 use Rattle.trial.specs.Record.{taken, turnedDown, none, shown, startOf, askedOf, moveOf, gainOf}
-use Rattle.trial.proofs.Movable.{no-state}
+use Rattle.calls.proofs.Movable.{no-state}
 use Rattle.trial.proofs.Fair.{asked-few}
 use Rattle.trial.proofs.Shown.{shownBy, Reached, by-start, by-move, reached-fair, move-shown, gain-shown}
 

@@ -1,6 +1,3 @@
-pub mod Pairs
-pub mod Startable
-pub mod Movable
 pub mod Stored
 pub mod Deck
 pub mod Made

@@ -15,9 +15,10 @@ use Rattle.shares.specs.Table.{level}
 use Rattle.moves.specs.Moves.{drawn, filled, moved, looked}
 use Rattle.trial.specs.declared.Trial.{Trial}
 use Rattle.trial.specs.declared.Answer.{Answer}
-use Rattle.trial.specs.Record.{taken, turnedDown, deck, blocksOf, none, shown, startOf, askedOf, movable, nextOf, moveOf, gainOf}
-use Rattle.trial.proofs.Startable.{startable-has}
-use Rattle.trial.proofs.Movable.{movable-has}
+use Rattle.trial.specs.Record.{taken, turnedDown, deck, blocksOf, none, shown, startOf, askedOf, nextOf, moveOf, gainOf}
+use Rattle.calls.specs.Movable.{movable}
+use Rattle.calls.proofs.Startable.{startable-has}
+use Rattle.calls.proofs.Movable.{movable-has}
 
 -- two lists stored in a table of empty blocks
 pub blocks-made : (fs gs none one both : List ℕ) → none ≡ replicate 512 0 → one ≡ sets none 0 fs → both ≡ sets one 256 gs → both ≡ blocksOf fs gs

@@ -1,13 +1,12 @@
 -- The trial record as code holds it, and what a start and a move make of it, field by field, on any record at all.
-use mathlib.Core.Bool.{Bool, _&&_, cond}
+use mathlib.Core.Bool.{cond}
 use mathlib.Core.List.{List, [], _∷_}
 use Prim.Native.Nat.{ℕ, zero, suc, _+_, _*_, _%_, _^_}
-use lib.Dec.{leb, ltb, eqb}
+use lib.Dec.{ltb}
 use lib.ListN.{length, take, replicate, getD}
 use lib.Seq.{sets}
 use lib.IntN.{ℤ, pos, subℕ}
-use Rattle.sets.specs.Sets.{has, flip}
-use Rattle.rules.specs.Limits.{most-states, most-trial}
+use Rattle.sets.specs.Sets.{flip}
 use Rattle.rules.specs.Trial.{startable}
 use Rattle.rules.specs.declared.Requirement.{Requirement}
 use Rattle.rules.specs.declared.StateNumber.{StateNumber}
@@ -15,6 +14,7 @@ use Rattle.rules.specs.declared.Verdict.{Verdict}
 use Rattle.rules.specs.declared.Refusal.the-variants.{BadCall}
 use Rattle.shares.specs.Table.{level}
 use Rattle.moves.specs.Moves.{drawn, filled, moved, looked}
+use Rattle.calls.specs.Movable.{movable}
 use Rattle.trial.specs.declared.Trial.{Trial}
 use Rattle.trial.specs.declared.Answer.{Answer}
 
@@ -82,11 +82,6 @@ startOf n b fs gs = cond (startable n b fs gs) (taken (shown n b fs gs)) (turned
 -- the requirements that a record lists
 abbrev pub askedOf : Trial → List Requirement
 askedOf t = drawn (t .blocks) (take (t .count) (t .cards))
-
--- s can move in a record of n states and k requirements: both are within 01's limits, as in every record that a start gave, and s is
--- below n and has not moved
-unfoldable pub movable : ℕ → ℕ → ℕ → ℕ → Bool
-movable n k moved s = leb n most-states && leb k most-trial && (ltb s n && eqb (has moved s) 0)
 
 -- the record after the move of s; the looks are a sum of 64 digits, which no record that a start gave comes near
 unfoldable pub nextOf : Trial → ℕ → Trial

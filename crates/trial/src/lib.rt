@@ -1,16 +1,12 @@
 // The trial record, for single moves, by value.
 ghost use mathlib.Core.Path.{_≡_};
-ghost use mathlib.Core.Bool.{_&&_};
 ghost use Prim.Native.Nat.{_+_, _<_, _≤_};
-ghost use lib.Bits.{bitAnd};
-ghost use lib.Dec.{eqb};
 ghost use lib.ListN.{replicate};
 ghost use lib.Seq.{sets};
 ghost use Rattle.rules.specs.Cases.{verdictNumbers};
-ghost use Rattle.rules.specs.Trial.{within, paired, allSound, startable};
 ghost use Rattle.shares.specs.Table.{level};
 ghost use Rattle.moves.specs.Moves.{drawn, filled};
-ghost use Rattle.trial.specs.Record.{cardOf, deck, blocksOf, taken, turnedDown, none, shown, startOf, movable, nextOf, moveOf, gainOf};
+ghost use Rattle.trial.specs.Record.{cardOf, deck, blocksOf, taken, turnedDown, none, shown, startOf, nextOf, moveOf, gainOf};
 
 // A trial record: n states, how many requirements it lists, the bit, the states that have moved, the looks so far. Of the blocks the first
 // 256 are first blocks and the others second ones; a card names two of them; the table has each state's level, as passes have it.
@@ -30,68 +26,6 @@ pub struct Trial {
 pub struct Answer {
     pub verdict: rules::Verdict,
     pub trial: Trial,
-}
-
-// Whether m has no mask bit at n or above.
-fn within_of(n: usize, m: u64) -> bool
-    ensures { λ r. ⌜ r ≡ within n m ⌝ }
-{
-    if 64 <= n {
-        return true;
-    }
-    m < (1 << n)
-}
-
-// Whether two blocks are within n states and do not overlap.
-fn sound_of(n: usize, f: u64, g: u64) -> bool
-    ensures { λ r. ⌜ r ≡ (within n f && within n g && eqb (bitAnd f g) 0) ⌝ }
-{
-    if !within_of(n, f) {
-        return false;
-    }
-    if !within_of(n, g) {
-        return false;
-    }
-    f & g == 0
-}
-
-// Whether the blocks of two lists are all so, of each pair as far as both lists go.
-fn all_sound(n: usize, firsts: &[u64], seconds: &[u64]) -> bool
-    ensures { λ r. ⌜ r ≡ allSound n (paired (now (firsts .entry)) (now (seconds .entry))) ⌝ }
-{
-    let mut i: usize = 0;
-    while i < firsts.len() {
-        if seconds.len() <= i {
-            return true;
-        }
-        if !sound_of(n, firsts[i], seconds[i]) {
-            return false;
-        }
-        i += 1;
-    }
-    true
-}
-
-// Whether a record can start so.
-fn can_start(n: usize, bit: u64, firsts: &[u64], seconds: &[u64]) -> bool
-    ensures { λ r. ⌜ r ≡ startable n bit (now (firsts .entry)) (now (seconds .entry)) ⌝ }
-{
-    if n < 1 {
-        return false;
-    }
-    if rules::MOST_STATES < n {
-        return false;
-    }
-    if firsts.len() != seconds.len() {
-        return false;
-    }
-    if rules::MOST_TRIAL < firsts.len() {
-        return false;
-    }
-    if !within_of(n, bit) {
-        return false;
-    }
-    all_sound(n, firsts, seconds)
 }
 
 // The blocks of a list stored in a table, from the place `at` on.
@@ -210,22 +144,6 @@ fn refused(t: Trial) -> Answer
     }
 }
 
-// Whether state s can move.
-fn can_move(states: usize, count: usize, moved: u64, s: usize) -> bool
-    ensures { λ r. ⌜ r ≡ movable states count moved s ⌝ }
-{
-    if rules::MOST_STATES < states {
-        return false;
-    }
-    if rules::MOST_TRIAL < count {
-        return false;
-    }
-    if states <= s {
-        return false;
-    }
-    !sets::member(moved, s)
-}
-
 // The record after the move of s.
 fn next_of(t: Trial, s: usize) -> Trial
     requires { ⌜ (t .count ≤ 256) × (s < 64) ⌝ }
@@ -256,7 +174,7 @@ impl Trial {
     pub fn start(n: usize, bit: u64, firsts: &[u64], seconds: &[u64]) -> Answer
         ensures { λ r. ⌜ r ≡ startOf n bit (now (firsts .entry)) (now (seconds .entry)) ⌝ }
     {
-        if can_start(n, bit, firsts, seconds) {
+        if calls::can_start(n, bit, firsts, seconds) {
             return accepted(shown_at(n, bit, firsts, seconds));
         }
         refused(empty())
@@ -266,7 +184,7 @@ impl Trial {
     pub fn make_move(self, s: rules::StateNumber) -> Answer
         ensures { λ r. ⌜ r ≡ moveOf self s ⌝ }
     {
-        if can_move(self.states, self.count, self.moved, s.0) {
+        if calls::can_move(self.states, self.count, self.moved, s.0) {
             return accepted(next_of(self, s.0));
         }
         refused(self)

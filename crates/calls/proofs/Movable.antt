@@ -9,8 +9,8 @@ use Rattle.sets.specs.Sets.{has}
 use Rattle.sets.proofs.Every.{and-first, and-second}
 use Rattle.sets.proofs.Members.{has-lt}
 use Rattle.rules.specs.Limits.{most-states, most-trial}
-use Rattle.trial.specs.Record.{movable}
-use Rattle.trial.proofs.Startable.{fails, failed}
+use Rattle.calls.specs.Movable.{movable}
+use Rattle.calls.proofs.Startable.{fails, failed}
 
 module _ (n k moved s : ℕ) where
   -- a state below n that has not moved

@@ -1,8 +1,8 @@
--- `trial::can_move` meets its contract: the first case of refusal 11 decides.
-use Rattle.trial.proofs.Movable.{past-most-states, past-most, no-state, moved-decides}
+-- `calls::can_move` meets its contract: the first case of refusal 11 decides.
+use Rattle.calls.proofs.Movable.{past-most-states, past-most, no-state, moved-decides}
 use borrow.Author.Needs.{needs}
-use Rattle.trial.proofs.can_move.Statement.{statement}
-use Rattle.trial.proofs.can_move.Tie as tie
+use Rattle.calls.proofs.can_move.Statement.{statement}
+use Rattle.calls.proofs.can_move.Tie as tie
 
 returns : tie.Need-returns
 returns c = let a = c .before .args in past-most-states (a .states) (a .count) (a .moved) (a .s) (c .if1 .taken)

@@ -1,11 +1,11 @@
--- `trial::sound_of` meets its contract: the first test that fails decides.
+-- `calls::sound_of` meets its contract: the first test that fails decides.
 use Rattle.rules.specs.Trial.{within}
 use mathlib.Core.Path.{_≡_, sym, _∙_}
 use mathlib.Core.Bool.{true, false}
 use borrow.Author.Needs.{needs}
 use borrow.Author.Tests.{not-true, not-false}
-use Rattle.trial.proofs.sound_of.Statement.{statement}
-use Rattle.trial.proofs.sound_of.Tie as tie
+use Rattle.calls.proofs.sound_of.Statement.{statement}
+use Rattle.calls.proofs.sound_of.Tie as tie
 
 within-of-requires : tie.Need-within-of-requires
 within-of-requires c κs = search needs

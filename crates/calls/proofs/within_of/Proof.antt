@@ -1,12 +1,12 @@
--- `trial::within_of` meets its contract.
+-- `calls::within_of` meets its contract.
 use Rattle.sets.proofs.Members.{shl-one}
-use Rattle.trial.proofs.Pairs.{within-wide}
+use Rattle.calls.proofs.Pairs.{within-wide}
 use Prim.Native.Nat.{ℕ}
 use mathlib.Core.Path.{ap}
 use lib.Dec.{ltb}
 use borrow.Author.Needs.{needs}
-use Rattle.trial.proofs.within_of.Statement.{statement}
-use Rattle.trial.proofs.within_of.Tie as tie
+use Rattle.calls.proofs.within_of.Statement.{statement}
+use Rattle.calls.proofs.within_of.Tie as tie
 
 returns : tie.Need-returns
 returns c = within-wide (c .before .args .n) (c .before .args .m) (c .if1 .taken) (search needs)

@@ -1,11 +1,11 @@
--- `trial::can_start` meets its contract: the first case of refusal 11 decides, and after them the blocks.
-use Rattle.trial.proofs.Startable.{no-states, too-many-states, unlike-lengths, too-many, bit-too-high, blocks-decide}
+-- `calls::can_start` meets its contract: the first case of refusal 11 decides, and after them the blocks.
+use Rattle.calls.proofs.Startable.{no-states, too-many-states, unlike-lengths, too-many, bit-too-high, blocks-decide}
 use mathlib.Core.Path.{sym, _∙_}
 use native.Mathlib.Omega.{arith}
 use borrow.Author.Needs.{needs}
 use borrow.Author.Tests.{not-true, not-false}
-use Rattle.trial.proofs.can_start.Statement.{statement}
-use Rattle.trial.proofs.can_start.Tie as tie
+use Rattle.calls.proofs.can_start.Statement.{statement}
+use Rattle.calls.proofs.can_start.Tie as tie
 
 returns : tie.Need-returns
 returns c = let a = c .before .before .before .args in no-states (a .n) (a .bit) (a .firsts .now) (a .seconds .now) (c .if1 .taken)

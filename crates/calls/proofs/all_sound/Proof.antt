@@ -1,14 +1,14 @@
--- `trial::all_sound` meets its contract: what is left of the lists decides as the whole does.
+-- `calls::all_sound` meets its contract: what is left of the lists decides as the whole does.
 use Rattle.rules.specs.Trial.{paired, allSound}
-use Rattle.trial.proofs.Pairs.{paired-first-end, paired-second-end, sound-more, sound-not, sound-end}
+use Rattle.calls.proofs.Pairs.{paired-first-end, paired-second-end, sound-more, sound-not, sound-end}
 use Prim.Native.Nat.{_≤_, _<_, _-_}
 use mathlib.Core.Path.{_≡_, refl, sym, _∙_}
 use native.Mathlib.Omega.{arith}
 use borrow.Author.Needs.{needs}
 use borrow.Author.Tests.{not-true, not-false}
 use lib.ListN.{length, drop}
-use Rattle.trial.proofs.all_sound.Statement.{statement}
-use Rattle.trial.proofs.all_sound.Tie as tie
+use Rattle.calls.proofs.all_sound.Statement.{statement}
+use Rattle.calls.proofs.all_sound.Tie as tie
 
 abbrev Inv-loop : tie.InvT-loop
 Inv-loop n firsts seconds i₀ i = (allSound n (paired (drop i firsts) (drop i seconds)) ≡ allSound n (paired firsts seconds)) × (i ≤ length firsts)
