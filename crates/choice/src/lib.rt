@@ -1,5 +1,7 @@
-// The choices of a pass by its gain table: which state moves next, the level that its move reaches, and the best bit so far.
+// The choices in building a bit: which state moves next, the level that its move reaches, the best bit so far, and which way round it is kept.
 ghost use mathlib.Core.Path.{_≡_};
+ghost use Prim.Native.Nat.{min};
+ghost use Rattle.rules.specs.OneBit.{complemented};
 ghost use Rattle.choice.specs.Pass.{highest, reached, bestOf};
 
 // What a pass keeps: the bit, its level (that of a gain of 0 where nothing was gained), and the looks of all its moves.
@@ -68,4 +70,18 @@ pub fn reach(now: u32, gain: u32) -> u32
     ensures { λ r. ⌜ r ≡ reached now gain ⌝ }
 {
     (((now as u64) + (gain as u64) + 2147483648) % 4294967296) as u32
+}
+
+// A bit of n states, complemented if state 0 has value 1; of more than 64 states the first 64.
+pub fn complement(n: usize, b: u64) -> u64
+    ensures { λ r. ⌜ r ≡ complemented (min n 64) b ⌝ }
+{
+    if !sets::member(b, 0) {
+        return b;
+    }
+    let all = sets::everyone_of(n);
+    if all < b {
+        return 0;
+    }
+    all - b
 }

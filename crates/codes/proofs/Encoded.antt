@@ -21,7 +21,7 @@ use Rattle.cards.specs.Cards.{Laid, cardsOf, numbered}
 use Rattle.fair.proofs.Limits.{fair-grants}
 use Rattle.cards.proofs.Dealing.{numbered-length}
 use Rattle.cards.proofs.FairListings.{few-cards, few-requirements, good-requirements, as-many-cards, drawn-requirements, card-number}
-use Rattle.codes.specs.Encode.{most-asked, no-bit, noEncoding, encodedAs, encoded}
+use Rattle.encoding.specs.Encode.{most-asked, no-bit, noEncoding, encodedAs, encoded}
 use Rattle.codes.specs.Build.{Begun, Done, Outcome}
 
 drop-replicate : (k w v : ℕ) → drop k (replicate w v) ≡ replicate (w - k) v

@@ -1,8 +1,5 @@
-pub mod Lists
 pub mod Live
-pub mod FirstMet
 pub mod Notes
-pub mod Judgement
 pub mod Building
 pub mod NextBit
 pub mod Running

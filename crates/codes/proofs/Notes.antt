@@ -13,10 +13,10 @@ use Rattle.rules.specs.declared.Requirement.{Requirement}
 use Rattle.rules.proofs.Good.{Good, AllGood}
 use Rattle.moves.specs.Moves.{numberOf, requirementOf, drawn}
 use Rattle.sift.specs.Sift.{metCard, notedCard, noted}
-use Rattle.codes.specs.Encode.{no-bit, metFirst, padded}
-use Rattle.codes.proofs.Lists.{map-at, replicate-at, padded-length, padded-inside, padded-behind}
+use Rattle.encoding.specs.Encode.{no-bit, metFirst, padded}
+use Rattle.encoding.proofs.Lists.{map-at, replicate-at, padded-length, padded-inside, padded-behind}
 use Rattle.codes.proofs.Live.{leftOf, card-met-left, card-left, card-met}
-use Rattle.codes.proofs.FirstMet.{first-none, first-next}
+use Rattle.encoding.proofs.FirstMet.{first-none, first-next}
 
 -- ---- one card
 

@@ -18,7 +18,7 @@ use Rattle.moves.specs.Moves.{requirementOf, drawn}
 use Rattle.moves.proofs.Ready.{Ready}
 use Rattle.choice.proofs.AllPasses.{Few, bit-few}
 use Rattle.sift.specs.Sift.{liveCards, sifted, noted}
-use Rattle.codes.specs.Encode.{most-asked, no-bit}
+use Rattle.encoding.specs.Encode.{most-asked, no-bit}
 use Rattle.codes.specs.Build.{AddedBit, Begun, Done}
 use Rattle.codes.proofs.Live.{leftOf, left-all, left-count, left-good, left-next, live-count, live-drawn}
 use Rattle.codes.proofs.Notes.{Shown, shown-none, shown-next, shown-all, noted-length}

@@ -12,7 +12,7 @@ use Rattle.rules.specs.declared.Refusal.the-variants.{Stalled}
 use Rattle.moves.specs.Moves.{numberOf, drawn}
 use Rattle.moves.proofs.Ready.{Ready}
 use Rattle.sift.specs.Sift.{liveCards, sifted, noted}
-use Rattle.codes.specs.Encode.{most-asked, no-bit, padded, metFirst}
+use Rattle.encoding.specs.Encode.{most-asked, no-bit, padded, metFirst}
 
 -- the next bit for some live cards, as number k, and what it makes of the cards and of the notes
 pub record AddedBit (blocks : List ℕ) (n k : ℕ) (cards by : List ℕ) (bit left passes looks : ℕ) (cards′ by′ : List ℕ) : Type 0 where

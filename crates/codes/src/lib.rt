@@ -1,49 +1,15 @@
 // The code of a listing: bits until the width is reached or nothing is live.
 ghost use mathlib.Core.Path.{_≡_};
-ghost use Prim.Native.Nat.{min, _<_};
-ghost use mathlib.Core.Bool.{true, cond, not, _&&_};
+ghost use Prim.Native.Nat.{_<_};
+ghost use mathlib.Core.Bool.{true};
 ghost use lib.ListN.{length, replicate};
-ghost use lib.Dec.{eqb};
-ghost use Rattle.rules.specs.Limits.{most-bits};
 ghost use Rattle.rules.specs.Code.{coding};
 ghost use Rattle.fair.specs.Fair.{fair};
 ghost use Rattle.cards.specs.Cards.{Laid, cardsOf, numbered};
-ghost use Rattle.rules.specs.OneBit.{complemented};
 ghost use Rattle.moves.specs.Moves.{drawn};
 ghost use Rattle.moves.proofs.Ready.{Ready};
-ghost use Rattle.codes.specs.Encode.{metBy, noEncoding, encodedAs, encoded};
+ghost use Rattle.encoding.specs.Encode.{encodedAs, encoded};
 ghost use Rattle.codes.specs.Build.{AddedBit, Begun, Outcome};
-ghost use Rattle.rules.specs.declared.Verdict.{Verdict};
-
-// A bit of n states, complemented if state 0 has value 1; of more than 64 states the first 64.
-fn complement(n: usize, b: u64) -> u64
-    ensures { λ r. ⌜ r ≡ complemented (min n 64) b ⌝ }
-{
-    if !sets::member(b, 0) {
-        return b;
-    }
-    let all = sets::everyone_of(n);
-    if all < b {
-        return 0;
-    }
-    all - b
-}
-
-// Whether the code meets a requirement; beyond those asked there is none to meet.
-pub fn is_met(e: rules::Encoding, r: rules::RequirementNumber) -> bool
-    ensures { λ m. ⌜ m ≡ metBy e r ⌝ }
-{
-    let k = r.0;
-    let asked = e.asked;
-    if asked <= k {
-        return false;
-    }
-    let by = e.by;
-    if 4400 <= k {
-        return false;
-    }
-    by[k] != rules::NO_BIT
-}
 
 // What a new bit is, and how many cards it leaves live.
 struct Added {
@@ -60,7 +26,7 @@ fn add_bit(blocks: &[u64], cards: &mut [u32], by: &mut [u8], n: usize, k: u8) ->
 {
     let start = moves::second_of(blocks, cards[0]);
     let built = passes::build_bit(blocks, cards, n, start);
-    let b = complement(n, built.bit);
+    let b = choice::complement(n, built.bit);
     let left = sift::sift(blocks, b, k, cards, by);
     Added {
         bit: b,
@@ -130,21 +96,6 @@ fn build_bits(
     }
 }
 
-// No code, and why.
-fn uncoded_as(r: rules::Refusal) -> rules::Encoding
-    ensures { λ e. ⌜ e ≡ noEncoding (Verdict.Refused r 0) ⌝ }
-{
-    rules::Encoding {
-        verdict: rules::Verdict::Refused(r, 0),
-        width: 0,
-        bits: [0u64; 32],
-        asked: 0,
-        by: [255u8; 4400],
-        passes: 0,
-        looks: 0,
-    }
-}
-
 // Room for the blocks and for the cards of a listing, and for the notes.
 fn no_blocks() -> [u64; 320]
     ensures { λ r. ⌜ r ≡ replicate 320 0 ⌝ }
@@ -164,26 +115,6 @@ fn no_notes() -> [u8; 4400]
     [255u8; 4400]
 }
 
-// How many bits may be built: as many as there can be, where the width is 0.
-fn most_of(width: usize) -> usize
-    ensures { λ r. ⌜ r ≡ cond (eqb width 0) most-bits width ⌝ }
-{
-    if width == 0 {
-        return rules::MOST_BITS;
-    }
-    width
-}
-
-// Width 0 asks for everything: it falls short if something is left live.
-fn falls_short(width: usize, live: usize) -> bool
-    ensures { λ r. ⌜ r ≡ (eqb width 0 && not (eqb live 0)) ⌝ }
-{
-    if width == 0 {
-        return live != 0;
-    }
-    false
-}
-
 // The code of a fair listing, whose blocks are laid and whose cards are dealt.
 fn encode_fair(t: rules::Listing, blocks: &[u64], cards: &mut [u32]) -> rules::Encoding
     requires { ⌜ (fair t ≡ true) × Laid t (now blocks) × (now cards ≡ numbered 0 (cardsOf t)) ⌝ }
@@ -193,13 +124,13 @@ fn encode_fair(t: rules::Listing, blocks: &[u64], cards: &mut [u32]) -> rules::E
     let mut by = no_notes();
     let mut bits = [0u64; 32];
     let width = t.head.width;
-    let most = most_of(width);
+    let most = encoding::most_of(width);
     let c = build_bits(blocks, cards, &mut by, &mut bits, t.head.states, most);
     if c.stalled {
-        return uncoded_as(rules::Refusal::Stalled);
+        return encoding::uncoded_as(rules::Refusal::Stalled);
     }
-    if falls_short(width, c.live) {
-        return uncoded_as(rules::Refusal::TooWide);
+    if encoding::falls_short(width, c.live) {
+        return encoding::uncoded_as(rules::Refusal::TooWide);
     }
     rules::Encoding {
         verdict: rules::Verdict::Accepted,
@@ -219,7 +150,7 @@ pub fn encode(t: rules::Listing) -> rules::Encoding
     let mut blocks = no_blocks();
     let mut pile = no_cards();
     match cards::deal_out(t, &mut blocks, &mut pile) {
-        cards::Hand::Unfair => uncoded_as(rules::Refusal::Limit),
+        cards::Hand::Unfair => encoding::uncoded_as(rules::Refusal::Limit),
         cards::Hand::Cards(asked) => encode_fair(t, &blocks, &mut pile[..asked]),
     }
 }

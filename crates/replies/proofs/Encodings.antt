@@ -22,9 +22,9 @@ use Rattle.rules.proofs.Most.{most-requirements}
 use Rattle.rules.proofs.Built.{built}
 use Rattle.moves.proofs.Ready.{sound-ready}
 use Rattle.cards.proofs.FairListings.{sound-fair}
-use Rattle.codes.specs.Encode.{most-asked, no-bit, padded, metFirst, encodedAs, encoded}
-use Rattle.codes.proofs.Lists.{map-at, padded-length}
-use Rattle.codes.proofs.FirstMet.{no-bit-unmet}
+use Rattle.encoding.specs.Encode.{most-asked, no-bit, padded, metFirst, encodedAs, encoded}
+use Rattle.encoding.proofs.Lists.{map-at, padded-length}
+use Rattle.encoding.proofs.FirstMet.{no-bit-unmet}
 use Rattle.codes.proofs.Counters.{FewIn, few-counted}
 use Rattle.report.specs.Report.{noBit, Holds}
 use Rattle.replies.specs.Saying.{Whole}

@@ -21,7 +21,7 @@ use Rattle.rules.specs.declared.Verdict.{Verdict}
 use Rattle.rules.specs.declared.Refusal.{Refusal}
 use Rattle.rules.specs.declared.Refusal.the-variants.{Unmet, NoRoom}
 use Rattle.rules.proofs.Sound.{Sound, accepted-sound, rows-length}
-use Rattle.codes.specs.Encode.{encoded}
+use Rattle.encoding.specs.Encode.{encoded}
 use Rattle.pen.specs.Pen.{Wrote}
 use Rattle.pen.proofs.Laws.{wrote-all, wrote-length}
 use Rattle.report.specs.Report.{unmetIn, encodedReport}

@@ -16,7 +16,7 @@ use Rattle.rules.specs.declared.Verdict.{Verdict}
 use Rattle.rules.specs.declared.Refusal.the-variants.{Unmet}
 use Rattle.rules.proofs.Sound.{Sound, accepted-sound}
 use Rattle.rules.proofs.LineNumbers.{refused-line}
-use Rattle.codes.specs.Encode.{encodedAs}
+use Rattle.encoding.specs.Encode.{encodedAs}
 use Rattle.report.proofs.Same.{same-report}
 use Rattle.replies.specs.Saying.{replyTo}
 use Rattle.replies.specs.declared.Wanted.{Wanted}

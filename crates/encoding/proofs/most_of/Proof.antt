@@ -1,8 +1,8 @@
--- `codes::most_of` meets its contract.
+-- `encoding::most_of` meets its contract.
 use mathlib.Core.Path.{refl}
 use borrow.Author.Tests.{eq-eqb, ne-eqb}
-use Rattle.codes.proofs.most_of.Statement.{statement}
-use Rattle.codes.proofs.most_of.Tie as tie
+use Rattle.encoding.proofs.most_of.Statement.{statement}
+use Rattle.encoding.proofs.most_of.Tie as tie
 
 returns : tie.Need-returns
 returns c = rw (eq-eqb _ _ (c .if1 .taken)) refl

@@ -12,9 +12,9 @@ use Rattle.rules.specs.Requirements.{metByCode, requirements}
 use Rattle.rules.specs.Code.{Code, coded}
 use Rattle.rules.specs.declared.Listing.{Listing}
 use Rattle.rules.specs.declared.RequirementNumber.{RequirementNumber}
-use Rattle.codes.specs.Encode.{most-asked, no-bit, metFirst, padded, encodedAs, metBy}
-use Rattle.codes.proofs.Lists.{map-at, padded-inside}
-use Rattle.codes.proofs.FirstMet.{noted-met}
+use Rattle.encoding.specs.Encode.{most-asked, no-bit, metFirst, padded, encodedAs, metBy}
+use Rattle.encoding.proofs.Lists.{map-at, padded-inside}
+use Rattle.encoding.proofs.FirstMet.{noted-met}
 
 module _ (t : Listing) (c : Code) (r : RequirementNumber) where
   first : ℕ

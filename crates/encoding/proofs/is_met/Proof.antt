@@ -1,18 +1,18 @@
--- `codes::is_met` meets its contract.
+-- `encoding::is_met` meets its contract.
 use mathlib.Core.Bool.{not}
 use lib.Dec.{eqb}
 use lib.ListN.{length-map, List·getD-eq-default, length}
-use Rattle.codes.specs.Encode.{most-asked, no-bit, metBy}
-use Rattle.codes.proofs.Lists.{getD-within}
+use Rattle.encoding.specs.Encode.{most-asked, no-bit, metBy}
+use Rattle.encoding.proofs.Lists.{getD-within}
 use Prim.Native.Nat.{ℕ}
 use mathlib.Core.Path.{_≡_, sym, ap, _∙_}
 use native.Mathlib.Omega.{arith}
 use borrow.Author.Needs.{needs}
 use borrow.Author.Tests.{lt-ltb, le-ltb}
-use Rattle.codes.proofs.is_met.Statement.{statement}
-use Rattle.codes.proofs.is_met.Tie as tie
-use Rattle.codes.proofs.is_met.Reads as reads
-use Rattle.codes.proofs.is_met.Lts as lts
+use Rattle.encoding.proofs.is_met.Statement.{statement}
+use Rattle.encoding.proofs.is_met.Tie as tie
+use Rattle.encoding.proofs.is_met.Reads as reads
+use Rattle.encoding.proofs.is_met.Lts as lts
 
 -- the notes of an encoding have a place for each requirement that there can be
 by-length : (s : lts.Start reads.Pre reads.Post) → length (s .args .e .by) ≡ most-asked

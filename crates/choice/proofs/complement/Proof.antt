@@ -1,4 +1,4 @@
--- `codes::complement` meets its contract.
+-- `choice::complement` meets its contract.
 use Rattle.rules.specs.OneBit.{complemented}
 use Rattle.sets.specs.Sets.{has, everyone}
 use Prim.Native.Nat.{min, ℕ, _<_, _-_}
@@ -8,8 +8,8 @@ use mathlib.Core.Bool.{true, false}
 use native.Mathlib.Omega.{arith}
 use borrow.Author.Needs.{needs}
 use borrow.Author.Tests.{not-true, not-false}
-use Rattle.codes.proofs.complement.Statement.{statement}
-use Rattle.codes.proofs.complement.Tie as tie
+use Rattle.choice.proofs.complement.Statement.{statement}
+use Rattle.choice.proofs.complement.Tie as tie
 
 member-requires : tie.Need-member-requires
 member-requires c κs = search needs

@@ -1,8 +1,8 @@
--- `codes::falls_short` meets its contract.
+-- `encoding::falls_short` meets its contract.
 use mathlib.Core.Path.{refl}
 use borrow.Author.Tests.{eq-eqb, ne-eqb}
-use Rattle.codes.proofs.falls_short.Statement.{statement}
-use Rattle.codes.proofs.falls_short.Tie as tie
+use Rattle.encoding.proofs.falls_short.Statement.{statement}
+use Rattle.encoding.proofs.falls_short.Tie as tie
 
 returns : tie.Need-returns
 returns c = rw (eq-eqb _ _ (c .if1 .taken)) refl

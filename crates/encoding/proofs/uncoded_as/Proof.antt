@@ -1,0 +1,12 @@
+-- `encoding::uncoded_as` meets its contract.
+use Rattle.encoding.specs.Encode.{noEncoding}
+use mathlib.Core.Path.{refl}
+use Rattle.encoding.proofs.uncoded_as.Statement.{statement}
+use Rattle.encoding.proofs.uncoded_as.Tie as tie
+
+returns : tie.Need-returns
+unfolding noEncoding
+returns c = refl
+
+pub uncoded-as-spec : {M : Type 1} → statement M
+uncoded-as-spec = tie.close (tie.spec returns)
