@@ -1,8 +1,8 @@
 // `DI` and n of `+ - .`: a dichotomy.
 ghost use mathlib.Core.Path.{_≡_};
 ghost use Rattle.rules.specs.Lines.{dichotomyLine};
-use super::pieces::field;
-use super::pieces::field_count;
+use pieces::field;
+use pieces::field_count;
 use rules::DichotomyLine;
 use rules::Head;
 use rules::Refusal;

@@ -1,7 +1,3 @@
-// Readers of one line: its pieces, its mark, and what each kind of line says. Each takes the line's bytes without its LF.
+// The readers of a row and of a dichotomy. Each takes the line's bytes without its LF.
 pub mod dichotomy;
-pub mod end;
-pub mod head;
-pub mod mark;
-pub mod pieces;
 pub mod row;

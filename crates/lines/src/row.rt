@@ -2,8 +2,8 @@
 ghost use mathlib.Core.Path.{_≡_};
 ghost use Rattle.rules.specs.Lines.{rowFits, rowChecked, rowLine};
 ghost use Rattle.lines.specs.Rows.{rowWithin};
-use super::pieces::field;
-use super::pieces::field_count;
+use pieces::field;
+use pieces::field_count;
 use rules::Head;
 use rules::Refusal;
 use rules::Row;

@@ -13,7 +13,7 @@ use Rattle.rules.specs.Listing.{nothing, isMc, placed, accepted, refused, ended
 use Rattle.rules.specs.declared.Listing.{Listing}
 use Rattle.rules.specs.declared.Mark.{Mark}
 use Rattle.rules.specs.declared.Refusal.the-variants.{BadLine, Place}
-use Rattle.lines.proofs.pieces.Laws.{part, split-some}
+use Rattle.pieces.proofs.Laws.{part, split-some}
 
 -- ---- bytes behind `EN`
 

@@ -8,7 +8,7 @@ use Rattle.rules.specs.Text.{lf, linesOf}
 use Rattle.rules.specs.Listing.{Step, goes, ends, stops, lineStep, ended, unended, refused, readLines}
 use Rattle.rules.specs.declared.Listing.{Listing}
 use Rattle.rules.specs.declared.Reading.{Reading}
-use Rattle.lines.proofs.pieces.Laws.{part, Cut, split-some}
+use Rattle.pieces.proofs.Laws.{part, Cut, split-some}
 use Rattle.listing.specs.declared.says.Said.{Said}
 use Rattle.listing.specs.Says.{stepOf, lineSays}
 use Rattle.listing.proofs.says.Steps.{says-step}

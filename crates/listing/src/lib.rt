@@ -101,7 +101,7 @@ fn break_off(k: usize, l: &[u8]) -> Reading
     if l.len() == 0 {
         return refuse(Refusal::Place, k);
     }
-    if in_place(k, lines::mark::mark_of(l)) {
+    if in_place(k, marks::mark_of(l)) {
         return refuse(Refusal::BadLine, k);
     }
     refuse(Refusal::Place, k)
@@ -114,7 +114,7 @@ fn read_lines(s: &[u8]) -> Reading
     let mut t = blank_listing();
     let mut k: usize = 1;
     let mut at: usize = 0;
-    let mut end = lines::pieces::cut(s, 0, b'\n');
+    let mut end = pieces::cut(s, 0, b'\n');
     while end < s.len() {
         let said = says::line_said(k, t.head, t.rows, t.dichotomies, &s[at..end]);
         at = end + 1;
@@ -134,7 +134,7 @@ fn read_lines(s: &[u8]) -> Reading
             }
         }
         k += 1;
-        end = lines::pieces::cut(s, at, b'\n');
+        end = pieces::cut(s, at, b'\n');
     }
     break_off(k, &s[at..])
 }

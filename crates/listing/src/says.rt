@@ -34,7 +34,7 @@ fn head_reason(got: HeadLine) -> Refusal
 fn head_said(l: &[u8]) -> Said
     ensures { λ r. ⌜ r ≡ headSays (headLine (now (l .entry))) ⌝ }
 {
-    let got = lines::head::head_line(l);
+    let got = head::head_line(l);
     let HeadLine::Read(h) = got else {
         return Said::Refused(head_reason(got));
     };
@@ -91,7 +91,7 @@ fn end_reason(got: EndLine) -> Refusal
 fn end_said(l: &[u8]) -> Said
     ensures { λ r. ⌜ r ≡ endSays (endLine (now (l .entry))) ⌝ }
 {
-    let got = lines::end::end_line(l);
+    let got = marks::end_line(l);
     let EndLine::Read = got else {
         return Said::Refused(end_reason(got));
     };
@@ -128,7 +128,7 @@ fn later_said(mark: Mark, k: usize, h: Head, rows: usize, dichotomies: usize, l:
 pub fn line_said(k: usize, h: Head, rows: usize, dichotomies: usize, l: &[u8]) -> Said
     ensures { λ r. ⌜ r ≡ lineSays k h rows dichotomies (now (l .entry)) ⌝ }
 {
-    let mark = lines::mark::mark_of(l);
+    let mark = marks::mark_of(l);
     if k == 1 {
         return first_said(mark, l);
     }

@@ -10,7 +10,7 @@ use Rattle.rules.specs.Text.{lf, linesOf}
 use Rattle.rules.specs.Listing.{blank, readLines}
 use Rattle.rules.specs.declared.Listing.{Listing}
 use Rattle.rules.specs.declared.Reading.{Reading}
-use Rattle.lines.proofs.pieces.Laws.{Cut, cut-of}
+use Rattle.pieces.proofs.Laws.{Cut, cut-of}
 use Rattle.listing.specs.declared.says.Said.{Said}
 use Rattle.listing.specs.Says.{stepOf}
 use Rattle.listing.proofs.Ends.{ended-is}
