@@ -14,7 +14,7 @@ use Rattle.sets.proofs.Every.{every-at, at-every, every-same}
 use Rattle.rules.specs.Requirements.{wholly}
 use Rattle.rules.specs.Text.{nought, one, dash}
 use Rattle.rules.specs.Cover.{faceAt}
-use Rattle.faces.specs.Faces.{valueAt}
+use Rattle.pen.specs.Pen.{valueAt}
 
 -- two masks are equal where they have the same members
 every-mask : (n a c : ℕ) → a < 2 ^ n → c < 2 ^ n → every n (λ s. eqb (has a s) (has c s)) ≡ eqb a c

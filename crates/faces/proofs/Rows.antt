@@ -1,17 +1,17 @@
 -- The cover's pieces, one character or one row more at the end, as they are written.
 use mathlib.Core.Path.{_≡_, refl, ap, ap₂, _∙_}
-use mathlib.Core.Bool.{Bool, true, false, not, cond}
+use mathlib.Core.Bool.{true, false}
 use mathlib.Core.List.{List, [], _∷_, _++_, map, map-append, append-assoc}
 use Prim.Native.Nat.{ℕ, _+_, _<_, min}
 use native.Mathlib.Omega.{arith}
 use lib.Dec.{leb, eqb}
 use lib.Bits.{bitAnd}
 use lib.ListN.{length, take, getD, length-take}
-use borrow.Author.Tests.{eq-eqb, ne-eqb, leb-true, le-leb}
+use borrow.Author.Tests.{leb-true, le-leb}
 use Rattle.sets.proofs.Every.{and-first, and-second}
 use Rattle.rules.specs.Limits.{most-inputs, most-outputs}
 use Rattle.sets.specs.Sets.{has, statesFrom, everyone}
-use Rattle.rules.specs.Text.{bytes, digit, nought, one, dash, space, lf, decimal}
+use Rattle.rules.specs.Text.{bytes, nought, dash, space, lf, decimal}
 use Rattle.rules.specs.Listing.{rowsOf}
 use Rattle.rules.specs.Report.{joinedLines}
 use Rattle.rules.specs.Cover.{coverRow, cover}
@@ -19,9 +19,9 @@ use Rattle.rules.specs.declared.Pattern.{Pattern}
 use Rattle.rules.specs.declared.Head.{Head}
 use Rattle.rules.specs.declared.Row.{Row}
 use Rattle.rules.specs.declared.Listing.{Listing}
-use Rattle.pen.specs.Pen.{digitsText}
-use Rattle.pen.proofs.Growing.{bytes-one, bytes-of-one, take-one, take-most, joined-more}
-use Rattle.faces.specs.Faces.{patternAt, patternText, valueAt, valuesText, faceText, nextText, rowText, rowTexts, countsText, bounded, coverText, Bounded}
+use Rattle.pen.specs.Pen.{digitsText, valueAt, valuesText}
+use Rattle.pen.proofs.Growing.{bytes-one, take-one, take-most, joined-more}
+use Rattle.faces.specs.Faces.{patternAt, patternText, faceText, nextText, rowText, rowTexts, countsText, bounded, coverText, Bounded}
 use Rattle.faces.proofs.Masks.{face-value}
 
 -- ---- a pattern
@@ -42,49 +42,12 @@ pub pattern-one : (p : Pattern) (j : ℕ) {b : ℕ} → b ≡ patternAt p j → 
 unfolding patternText
 pattern-one p j e = bytes-one (patternAt p) j e
 
--- ---- a set's values in the bits
+-- ---- the group's values in the bits are its face
 
-pub value-nought : (g mixed b : ℕ) → bitAnd b g ≡ 0 → nought ≡ valueAt g mixed b
-unfolding valueAt
-value-nought g mixed b e = rw (eq-eqb (bitAnd b g) 0 e)
-
-pub value-one : (g mixed b : ℕ) → (bitAnd b g ≡ 0 → ⊥) → bitAnd b g ≡ g → one ≡ valueAt g mixed b
-unfolding valueAt
-value-one g mixed b e f = rw (ne-eqb (bitAnd b g) 0 e, eq-eqb (bitAnd b g) g f)
-
-pub value-mixed : (g mixed b : ℕ) → (bitAnd b g ≡ 0 → ⊥) → (bitAnd b g ≡ g → ⊥) → mixed ≡ valueAt g mixed b
-unfolding valueAt
-value-mixed g mixed b e f = rw (ne-eqb (bitAnd b g) 0 e, ne-eqb (bitAnd b g) g f)
-
-pub values-none : (g mixed : ℕ) → valuesText [] g mixed ≡ []
-unfolding valuesText
-values-none g mixed = refl
-
-pub values-more : (g mixed : ℕ) (bits : List ℕ) (k : ℕ) {b : ℕ} → k < length bits → b ≡ valueAt g mixed (getD bits k 0)
-    → valuesText (take (k + 1) bits) g mixed ≡ valuesText (take k bits) g mixed ++ (b ∷ [])
-unfolding valuesText
-values-more g mixed bits k h e = bytes-of-one (valueAt g mixed) bits k 0 h e
-
--- the group's are its face
 pub values-face : (n g : ℕ) {m : ℕ} → m ≡ bitAnd g (everyone n) → (bits : List ℕ) → valuesText bits m dash ≡ faceText n bits g
 unfolding valuesText faceText
 values-face n g e [] = refl
 values-face n g {m} e (b ∷ bits) = ap₂ _∷_ (ap (λ (k : ℕ). valueAt k dash b) e ∙ face-value n g b) (values-face n g e bits)
-
--- the next state's are its code
-value-next : (next b : ℕ) → valueAt next one b ≡ nought + digit (not (eqb (bitAnd b next) 0))
-unfolding valueAt
-value-next next b = go (eqb (bitAnd b next) 0) (eqb (bitAnd b next) next)
-  where
-    go : (x y : Bool) → cond x nought (cond y one one) ≡ nought + digit (not x)
-    go true y = refl
-    go false true = refl
-    go false false = refl
-
-pub values-next : (next : ℕ) (bits : List ℕ) → valuesText bits next one ≡ nextText bits next
-unfolding valuesText nextText
-values-next next [] = refl
-values-next next (b ∷ bits) = ap₂ _∷_ (value-next next b) (values-next next bits)
 
 -- ---- a row, and rows
 

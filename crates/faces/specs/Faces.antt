@@ -3,10 +3,9 @@ use mathlib.Core.Bool.{Bool, _&&_, cond}
 use mathlib.Core.List.{List, [], _∷_, _++_, map}
 use Prim.Native.Nat.{ℕ, _+_, _≤_}
 use lib.Dec.{leb, eqb}
-use lib.Bits.{bitAnd}
 use Rattle.sets.specs.Sets.{has, statesFrom}
 use Rattle.rules.specs.Limits.{most-inputs, most-outputs}
-use Rattle.rules.specs.Text.{bytes, nought, one, dash, lf, decimal}
+use Rattle.rules.specs.Text.{bytes, nought, dash, lf, decimal}
 use Rattle.rules.specs.Report.{digits, joinedLines}
 use Rattle.rules.specs.Cover.{face, nextCode, coverRow, cover}
 use Rattle.rules.specs.declared.Pattern.{Pattern}
@@ -21,15 +20,6 @@ patternAt p j = cond (eqb (has (p .dashes) j) 1) dash (nought + has (p .ones) j)
 -- its first n characters
 unfoldable pub patternText : Pattern → ℕ → List ℕ
 patternText p n = map (patternAt p) (statesFrom 0 n)
-
--- a set's value in the bit b: 0 or 1 where its members all have that value, `mixed` where they differ
-unfoldable pub valueAt : ℕ → ℕ → ℕ → ℕ
-valueAt g mixed b = cond (eqb (bitAnd b g) 0) nought (cond (eqb (bitAnd b g) g) one mixed)
-
--- and in each bit
-unfoldable pub valuesText : List ℕ → ℕ → ℕ → List ℕ
-unfolding valueAt
-valuesText bits g mixed = map (valueAt g mixed) bits
 
 -- the face of the group g of n states
 unfoldable pub faceText : ℕ → List ℕ → ℕ → List ℕ

@@ -5,7 +5,7 @@ ghost use lib.ListN.{take};
 ghost use Rattle.sets.specs.Sets.{everyone};
 ghost use Rattle.rules.specs.Cover.{cover};
 ghost use Rattle.pen.specs.Pen.{Wrote};
-ghost use Rattle.faces.specs.Faces.{patternAt, patternText, valueAt, valuesText, faceText, nextText, rowText, rowTexts, countsText, bounded, coverText, Bounded};
+ghost use Rattle.faces.specs.Faces.{patternAt, patternText, faceText, nextText, rowText, rowTexts, countsText, bounded, coverText, Bounded};
 use rules::Head;
 use rules::Listing;
 use rules::Pattern;
@@ -44,44 +44,18 @@ fn below(n: usize, g: u64) -> u64
     g & ((1 << n) - 1)
 }
 
-// A set's value in the bit b: 0 or 1 where its members all have that value, `mixed` where they differ, and 0 where it has none.
-fn value_byte(g: u64, b: u64, mixed: u8) -> u8
-    ensures { λ r. ⌜ r ≡ valueAt g mixed b ⌝ }
-{
-    if b & g == 0 {
-        return 48;
-    }
-    if b & g == g {
-        return 49;
-    }
-    mixed
-}
-
-// A set's value in each bit.
-fn put_values(out: &mut [u8], at: usize, bits: &[u64], g: u64, mixed: u8) -> usize
-    ensures { λ r. ⌜ Wrote (now (out .entry)) at (valuesText (now (bits .entry)) g mixed) r (now (out .exit)) ⌝ }
-{
-    let mut k: usize = 0;
-    let mut to = at;
-    while k < bits.len() {
-        to = pen::put_byte(out, to, value_byte(g, bits[k], mixed));
-        k += 1;
-    }
-    to
-}
-
 // The face of the group g of n states: 0 or 1 where all the group's codes agree, a dash elsewhere.
 fn put_face(out: &mut [u8], at: usize, n: usize, bits: &[u64], g: u64) -> usize
     ensures { λ r. ⌜ Wrote (now (out .entry)) at (faceText n (now (bits .entry)) g) r (now (out .exit)) ⌝ }
 {
-    put_values(out, at, bits, below(n, g), 45)
+    pen::put_values(out, at, bits, below(n, g), 45)
 }
 
 // The code of the next state, zeros if the row names none: 1 in each bit that has value 1 on the state named.
 fn put_next(out: &mut [u8], at: usize, bits: &[u64], next: u64) -> usize
     ensures { λ r. ⌜ Wrote (now (out .entry)) at (nextText (now (bits .entry)) next) r (now (out .exit)) ⌝ }
 {
-    put_values(out, at, bits, next, 49)
+    pen::put_values(out, at, bits, next, 49)
 }
 
 // A row's line: the input, the face, a space, the code of the next state, the outputs; a dash of the outputs is a 0.

@@ -1,4 +1,5 @@
 pub mod Laws
 pub mod Growing
+pub mod Values
 pub mod Decimal
 pub mod OneAnswer

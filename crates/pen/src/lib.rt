@@ -5,7 +5,7 @@ ghost use mathlib.Core.List.{[], _∷_, _++_};
 ghost use Prim.Native.Nat.{_+_, min};
 ghost use Rattle.sets.specs.Sets.{has};
 ghost use Rattle.rules.specs.Text.{nought, decimal};
-ghost use Rattle.pen.specs.Pen.{lastPlace, Wrote, digitsText};
+ghost use Rattle.pen.specs.Pen.{lastPlace, Wrote, digitsText, valueAt, valuesText};
 
 // The place behind `at`.
 fn behind(at: usize) -> usize
@@ -77,6 +77,32 @@ pub fn put_digits(out: &mut [u8], at: usize, m: u64, n: usize) -> usize
     while i < n {
         to = put_byte(out, to, digit_byte(m, i));
         i += 1;
+    }
+    to
+}
+
+// A set's value in the bit b: 0 or 1 where its members all have that value, `mixed` where they differ, and 0 where it has none.
+fn value_byte(g: u64, b: u64, mixed: u8) -> u8
+    ensures { λ r. ⌜ r ≡ valueAt g mixed b ⌝ }
+{
+    if b & g == 0 {
+        return 48;
+    }
+    if b & g == g {
+        return 49;
+    }
+    mixed
+}
+
+// A set's value in each bit.
+pub fn put_values(out: &mut [u8], at: usize, bits: &[u64], g: u64, mixed: u8) -> usize
+    ensures { λ r. ⌜ Wrote (now (out .entry)) at (valuesText (now (bits .entry)) g mixed) r (now (out .exit)) ⌝ }
+{
+    let mut k: usize = 0;
+    let mut to = at;
+    while k < bits.len() {
+        to = put_byte(out, to, value_byte(g, bits[k], mixed));
+        k += 1;
     }
     to
 }

@@ -10,15 +10,11 @@ use Rattle.sets.specs.Sets.{statesFrom}
 use Rattle.rules.specs.Text.{bytes}
 use Rattle.rules.specs.Listing.{noRequirement}
 use Rattle.rules.specs.Requirements.{requirements, metByCode}
-use Rattle.rules.specs.Code.{Code, codeOf}
-use Rattle.rules.specs.Report.{digits, countLine, stateLine, unmetLine, joinedLines}
+use Rattle.rules.specs.Code.{Code}
+use Rattle.rules.specs.Report.{countLine, stateLine, unmetLine, joinedLines}
 use Rattle.rules.specs.declared.Listing.{Listing}
 use Rattle.rules.specs.declared.Encoding.{Encoding}
 use Rattle.rules.specs.declared.RequirementNumber.{RequirementNumber}
-
--- a state's value in each bit, as characters
-unfoldable pub valuesText : List ℕ → ℕ → List ℕ
-valuesText bits s = digits (codeOf bits s)
 
 -- what stands in `by` for a requirement that no bit meets
 abbrev pub noBit : ℕ

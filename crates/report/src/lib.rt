@@ -4,32 +4,19 @@ ghost use lib.ListN.{length};
 ghost use Rattle.rules.specs.Code.{codeOf};
 ghost use Rattle.rules.specs.Report.{codeText, countLine, stateLine, unmetLine};
 ghost use Rattle.pen.specs.Pen.{Wrote};
-ghost use Rattle.report.specs.Report.{valuesText, unmetIn, unmetLineIf, stateLines, unmetLines, encodedReport};
+ghost use Rattle.report.specs.Report.{unmetIn, unmetLineIf, stateLines, unmetLines, encodedReport};
 use rules::Encoding;
 use rules::RequirementNumber;
 use rules::StateNumber;
 
-// A state's value in each bit.
-fn put_values(out: &mut [u8], at: usize, bits: &[u64], s: StateNumber) -> usize
-    ensures { λ r. ⌜ Wrote (now (out .entry)) at (valuesText (now (bits .entry)) (s .0)) r (now (out .exit)) ⌝ }
-{
-    let mut k: usize = 0;
-    let mut to = at;
-    while k < bits.len() {
-        to = pen::put_byte(out, to, pen::digit_byte(bits[k], s.0));
-        k += 1;
-    }
-    to
-}
-
-// A state's code; a code of no bits is one dash.
+// A state's code, which is the value of the set of that state alone in each bit; a code of no bits is one dash.
 fn put_code(out: &mut [u8], at: usize, bits: &[u64], s: StateNumber) -> usize
     ensures { λ r. ⌜ Wrote (now (out .entry)) at (codeText (codeOf (now (bits .entry)) (s .0))) r (now (out .exit)) ⌝ }
 {
     if bits.len() == 0 {
         return pen::put_byte(out, at, 45);
     }
-    put_values(out, at, bits, s)
+    pen::put_values(out, at, bits, sets::flipped(0, s.0), 49)
 }
 
 // `CT bits asked unmet passes looks`

@@ -1,6 +1,7 @@
 -- `faces::put_next` meets its contract.
 use Rattle.pen.proofs.Laws.{wrote-as}
-use Rattle.faces.proofs.Rows.{values-next}
+use Rattle.pen.proofs.Values.{values-any}
+use Rattle.faces.specs.Faces.{nextText}
 use borrow.Author.Needs.{needs}
 use Rattle.faces.proofs.put_next.Statement.{statement}
 use Rattle.faces.proofs.put_next.Tie as tie
@@ -12,7 +13,8 @@ same-length : tie.Need-same-length
 same-length c = search needs
 
 returns : tie.Need-returns
-returns c = let s = c .before .before .before .before .before .before .args in wrote-as (c .before .before .put-values .ensures) (values-next (s .next) (s .bits .now))
+unfolding nextText
+returns c = let s = c .before .before .before .before .before .before .args in wrote-as (c .before .before .put-values .ensures) (values-any (s .next) (s .bits .now))
 
 pub put-next-spec : {M : Type 1} → statement M
 put-next-spec = tie.close (tie.spec put-values-requires same-length returns)

@@ -1,4 +1,4 @@
--- `faces::put_values` meets its contract. The loop's invariant: what is written is the set's values in the first k bits.
+-- `pen::put_values` meets its contract. The loop's invariant: what is written is the set's values in the first k bits.
 use mathlib.Core.Path.{sym, ap}
 use mathlib.Core.List.{List}
 use Prim.Native.Nat.{ℕ, _≤_, _-_}
@@ -6,12 +6,11 @@ use native.Mathlib.Omega.{arith}
 use lib.ListN.{length, take}
 use lib.Seq.{take-all}
 use borrow.Author.Needs.{needs}
-use Rattle.pen.specs.Pen.{Wrote}
+use Rattle.pen.specs.Pen.{Wrote, valuesText}
 use Rattle.pen.proofs.Laws.{wrote-none, wrote-then, wrote-as, wrote-same}
-use Rattle.faces.specs.Faces.{valuesText}
-use Rattle.faces.proofs.Rows.{values-none, values-more}
-use Rattle.faces.proofs.put_values.Statement.{statement}
-use Rattle.faces.proofs.put_values.Tie as tie
+use Rattle.pen.proofs.Values.{values-none, values-more}
+use Rattle.pen.proofs.put_values.Statement.{statement}
+use Rattle.pen.proofs.put_values.Tie as tie
 
 abbrev Inv-loop : tie.InvT-loop
 Inv-loop out₀ at bits g mixed k₀ to₀ out k to = (k ≤ length bits) × Wrote out₀ at (valuesText (take k bits) g mixed) to out

@@ -1,7 +1,7 @@
--- `faces::value_byte` meets its contract.
-use Rattle.faces.proofs.Rows.{value-nought, value-one, value-mixed}
-use Rattle.faces.proofs.value_byte.Statement.{statement}
-use Rattle.faces.proofs.value_byte.Tie as tie
+-- `pen::value_byte` meets its contract.
+use Rattle.pen.proofs.Values.{value-nought, value-one, value-mixed}
+use Rattle.pen.proofs.value_byte.Statement.{statement}
+use Rattle.pen.proofs.value_byte.Tie as tie
 
 returns : tie.Need-returns
 returns c = value-nought _ _ _ (c .if1 .taken)
