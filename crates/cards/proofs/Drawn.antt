@@ -14,8 +14,9 @@ use Rattle.rules.specs.declared.Listing.{Listing}
 use Rattle.rules.proofs.Runs.{Below}
 use Rattle.rules.proofs.Asked.{outside-not, outside-member, newGroup, groups-step}
 use Rattle.moves.specs.Moves.{requirementOf, drawn}
+use Rattle.asking.specs.Asking.{asksNew}
 use Rattle.cards.specs.Cards.{groupPlace, firstPlace, secondPlace, Laid}
-use Rattle.cards.specs.Cards.{placed, withStates, pairCards, asksNew, rowCards, groupCards, dichotomyCards, groupsOf, cardsOf}
+use Rattle.cards.specs.Cards.{placed, withStates, pairCards, rowCards, groupCards, dichotomyCards, groupsOf, cardsOf}
 use Rattle.fair.proofs.Limits.{Within}
 
 -- ---- one card

@@ -11,7 +11,8 @@ use Rattle.rules.specs.Requirements.{asks, outside}
 use Rattle.rules.specs.declared.Requirement.{Requirement}
 use Rattle.rules.specs.declared.Listing.{Listing}
 use Rattle.moves.specs.Moves.{numberOf, drawn}
-use Rattle.cards.specs.Cards.{groupPlace, withStates, pairCards, asksNew, rowCards, groupCards, dichotomyCards, groupsOf, cardsOf, numbered}
+use Rattle.asking.specs.Asking.{asksNew}
+use Rattle.cards.specs.Cards.{groupPlace, withStates, pairCards, rowCards, groupCards, dichotomyCards, groupsOf, cardsOf, numbered}
 
 -- ---- cards without a number
 

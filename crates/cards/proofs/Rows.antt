@@ -1,47 +1,19 @@
 -- The groups of the rows, as loops over them meet them: what a row asks, and the groups that stood before it.
-use mathlib.Core.Path.{_≡_, refl, sym, ap, _∙_}
-use mathlib.Core.Bool.{Bool, true, false, _&&_, not, cond}
-use mathlib.Core.List.{List, [], _∷_, _++_}
-use Prim.Native.Nat.{ℕ, suc, _+_, _-_, _≤_, _<_}
+use mathlib.Core.Path.{_≡_, sym, ap, _∙_}
+use mathlib.Core.Bool.{Bool, true, false, cond}
+use mathlib.Core.List.{List, [], _++_}
+use Prim.Native.Nat.{ℕ, _+_, _-_, _≤_, _<_}
 use native.Mathlib.Nat.{sub-zero}
 use native.Mathlib.Numerals.{add-one}
-use native.Mathlib.Omega.{arith}
-use lib.Dec.{leb, ltb, eqb}
-use lib.ListN.{length, getD, drop, drop-of-length-le}
+use lib.ListN.{length, drop, drop-of-length-le}
 use lib.Seq.{drop-cons}
-use Rattle.sets.specs.Sets.{size, statesFrom}
+use Rattle.sets.specs.Sets.{statesFrom}
 use Rattle.rules.specs.Requirements.{outside, stood}
-use Rattle.cards.specs.Cards.{groupPlace, withStates, asksNew, rowCards, groupCards}
-use Rattle.cards.specs.Dealing.{earlierGroups, cardsOfRow}
-
--- ---- the groups before a row
-
-module _ (groups : List ℕ) (g : ℕ) where
-  pub stood-none : stood g (earlierGroups groups 0) ≡ false
-  unfolding stood earlierGroups
-  stood-none = refl
-
-  module _ (r : ℕ) (h : 0 < r) where
-    last-group : earlierGroups groups r ≡ getD groups (r - 1) 0 ∷ earlierGroups groups (r - 1)
-    unfolding earlierGroups
-    last-group = ap (earlierGroups groups) after
-      where
-        after : r ≡ suc (r - 1)
-        after = omega arith
-
-    pub stood-here : eqb g (getD groups (r - 1) 0) ≡ true → stood g (earlierGroups groups r) ≡ true
-    unfolding stood
-    stood-here e = rw (last-group, e)
-
-    pub stood-before : eqb g (getD groups (r - 1) 0) ≡ false → stood g (earlierGroups groups r) ≡ stood g (earlierGroups groups (r - 1))
-    unfolding stood
-    stood-before e = rw (last-group, e)
+use Rattle.cards.specs.Cards.{groupPlace, withStates, rowCards, groupCards}
+use Rattle.asking.specs.Asking.{earlierGroups, asksNew}
+use Rattle.cards.specs.Dealing.{cardsOfRow}
 
 -- ---- what a row asks
-
--- the tests, one after the other
-pub asks-each : (n g : ℕ) (earlier : List ℕ) {a b : Bool} → leb 2 (size g) ≡ a → ltb (size g) n ≡ b → asksNew n g earlier ≡ (a && b && not (stood g earlier))
-asks-each n g earlier p q = rw (p, q)
 
 module _ (n r : ℕ) (earlier : List ℕ) (g : ℕ) where
   pub row-asks : asksNew n g earlier ≡ true → rowCards n r earlier g ≡ withStates (groupPlace r) (outside g (statesFrom 0 (n - 0)))

@@ -1,11 +1,11 @@
 -- Requirements as cards: where each block stands in the table of blocks, and a card for each requirement, in 01's order.
-use mathlib.Core.Bool.{Bool, _&&_, not, cond}
+use mathlib.Core.Bool.{cond}
 use mathlib.Core.Path.{_≡_}
 use mathlib.Core.List.{List, [], _∷_, _++_, map}
 use Prim.Native.Nat.{ℕ, zero, suc, _+_, _*_, _<_}
-use lib.Dec.{leb, ltb}
 use lib.ListN.{length, getD}
-use Rattle.sets.specs.Sets.{only, size, statesFrom}
+use Rattle.asking.specs.Asking.{asksNew}
+use Rattle.sets.specs.Sets.{only, statesFrom}
 use Rattle.rules.specs.Listing.{noRow, noRequirement, rowsOf, dichotomiesOf}
 use Rattle.rules.specs.Requirements.{outside, stood}
 use Rattle.rules.specs.declared.Row.{Row}
@@ -39,10 +39,6 @@ withStates f ss = map (placed f) ss
 unfoldable pub pairCards : List ℕ → List ℕ
 pairCards [] = []
 pairCards (i ∷ js) = withStates i js ++ pairCards js
-
--- the group g of a row asks: it has 2 to n - 1 states and hasn't stood in an earlier row
-abbrev pub asksNew : ℕ → ℕ → List ℕ → Bool
-asksNew n g earlier = leb 2 (size g) && ltb (size g) n && not (stood g earlier)
 
 -- what row r with the group g asks, behind rows with the earlier groups
 abbrev pub rowCards : ℕ → ℕ → List ℕ → ℕ → List ℕ

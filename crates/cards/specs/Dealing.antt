@@ -1,9 +1,10 @@
 -- What one step of the drawing does: some cards are dealt from a place of the pile on, each with its number.
 use mathlib.Core.Path.{_≡_}
-use mathlib.Core.List.{List, [], _∷_}
-use Prim.Native.Nat.{ℕ, zero, suc, _+_, _≤_}
+use mathlib.Core.List.{List}
+use Prim.Native.Nat.{ℕ, _+_, _≤_}
 use lib.ListN.{length, getD}
 use lib.Seq.{sets}
+use Rattle.asking.specs.Asking.{earlierGroups}
 use Rattle.cards.specs.Cards.{rowCards, numbered}
 
 -- the most cards of a listing
@@ -19,11 +20,6 @@ pub record Dealt (before : List ℕ) (k : ℕ) (cs : List ℕ) (after : List ℕ
 pub record Room (pile : List ℕ) (k : ℕ) (cs : List ℕ) : Type 0 where
   pub few : k + length cs ≤ most-cards
   pub long : most-cards ≤ length pile
-
--- the groups before that of row r, the last of them first
-unfoldable pub earlierGroups : List ℕ → ℕ → List ℕ
-earlierGroups groups zero = []
-earlierGroups groups (suc r) = getD groups r 0 ∷ earlierGroups groups r
 
 -- what row r asks
 abbrev pub cardsOfRow : ℕ → List ℕ → ℕ → List ℕ

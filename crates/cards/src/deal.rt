@@ -4,9 +4,9 @@ ghost use mathlib.Core.List.{[], _∷_};
 ghost use Prim.Native.Nat.{_+_, _-_, _<_, _≤_};
 ghost use lib.ListN.{length, set};
 ghost use Rattle.sets.specs.Sets.{statesFrom};
-ghost use Rattle.rules.specs.Requirements.{outside, stood};
-ghost use Rattle.cards.specs.Cards.{placed, withStates, pairCards, asksNew, groupCards, dichotomyCards};
-ghost use Rattle.cards.specs.Dealing.{Dealt, Room, earlierGroups, cardsOfRow};
+ghost use Rattle.rules.specs.Requirements.{outside};
+ghost use Rattle.cards.specs.Cards.{placed, withStates, pairCards, groupCards, dichotomyCards};
+ghost use Rattle.cards.specs.Dealing.{Dealt, Room, cardsOfRow};
 
 // Card k: the number of a requirement, and the places of its two blocks.
 fn put_card(k: usize, first: usize, second: usize, cards: &mut [u32])
@@ -56,43 +56,13 @@ pub fn pairs(n: usize, cards: &mut [u32]) -> usize
     at
 }
 
-// Whether the group g has stood in a row before row r.
-fn has_stood(groups: &[u64], g: u64, r: usize) -> bool
-    requires { ⌜ r ≤ length (now groups) ⌝ }
-    ensures { λ w. ⌜ w ≡ stood g (earlierGroups (now (groups .entry)) r) ⌝ }
-{
-    let mut i = r;
-    while 0 < i {
-        i -= 1;
-        if g == groups[i] {
-            return true;
-        }
-    }
-    false
-}
-
-// Whether the group g of row r asks.
-fn asks_new(n: usize, groups: &[u64], g: u64, r: usize) -> bool
-    requires { ⌜ r ≤ length (now groups) ⌝ }
-    ensures { λ w. ⌜ w ≡ asksNew n g (earlierGroups (now (groups .entry)) r) ⌝ }
-{
-    let size = sets::size_of(g) as usize;
-    if size < 2 {
-        return false;
-    }
-    if n <= size {
-        return false;
-    }
-    !has_stood(groups, g, r)
-}
-
 // What row r asks.
 fn deal_row(n: usize, groups: &[u64], r: usize, k: usize, cards: &mut [u32]) -> usize
     requires { ⌜ (n ≤ 32) × (length (now groups) ≤ 128) × (r < length (now groups)) × Room (now cards) k (cardsOfRow n (now groups) r) ⌝ }
     ensures { λ w. ⌜ Dealt (now (cards .entry)) k (cardsOfRow n (now (groups .entry)) r) (now (cards .exit)) w ⌝ }
 {
     let g = groups[r];
-    if asks_new(n, groups, g, r) {
+    if asking::asks_new(n, groups, g, r) {
         return deal_states(64 + r, g, 0, n, k, cards);
     }
     k

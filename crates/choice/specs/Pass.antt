@@ -1,11 +1,11 @@
 -- A pass by the gain table: the choice of a state, the moves, and the bit that is kept; then passes until none gains.
-use mathlib.Core.Bool.{Bool, true, false, cond}
-use mathlib.Core.List.{List, [], _∷_}
+use mathlib.Core.Bool.{cond}
+use mathlib.Core.List.{List}
 use Prim.Native.Nat.{ℕ, zero, suc, _+_, _%_, _^_, min}
 use lib.Dec.{ltb}
 use lib.ListN.{length, getD, replicate}
 use Rattle.sets.specs.Sets.{has, everyone, flip}
-use Rattle.rules.specs.OneBit.{rather, counted}
+use Rattle.rules.specs.OneBit.{rather}
 use Rattle.rules.specs.declared.Requirement.{Requirement}
 use Rattle.shares.specs.Table.{level, less}
 use Rattle.moves.specs.Moves.{filled, moved, looked}

@@ -6,7 +6,7 @@ use Prim.Native.Nat.{ℕ, _≤_, _<_}
 use lib.ListN.{length, getD, drop, replicate}
 use Rattle.rules.specs.Limits.{most-bits}
 use Rattle.rules.specs.OneBit.{newBit}
-use Rattle.rules.specs.Code.{Code, Coding, coded, uncoded, build, unmetFrom}
+use Rattle.rules.specs.Code.{Code, coded, uncoded, build, unmetFrom}
 use Rattle.rules.specs.declared.Requirement.{Requirement}
 use Rattle.rules.specs.declared.Refusal.the-variants.{Stalled}
 use Rattle.moves.specs.Moves.{numberOf, drawn}

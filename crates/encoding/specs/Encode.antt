@@ -1,18 +1,17 @@
 -- What the encoder answers for a listing: 01's code, with the bit that first met each requirement.
-use mathlib.Core.Bool.{Bool, true, false, cond, not, _&&_}
+use mathlib.Core.Bool.{Bool, cond, not, _&&_}
 use mathlib.Core.List.{List, [], _∷_, _++_, map}
-use Prim.Native.Nat.{ℕ, zero, suc, _+_, _-_}
+use Prim.Native.Nat.{ℕ, _+_, _-_}
 use lib.Dec.{ltb, eqb}
 use lib.ListN.{length, getD, replicate}
 use Rattle.rules.specs.Limits.{most-bits}
 use Rattle.rules.specs.Requirements.{met, requirements}
-use Rattle.rules.specs.Code.{Code, Coding, coded, uncoded, coding}
+use Rattle.rules.specs.Code.{Coding, coded, uncoded, coding}
 use Rattle.rules.specs.declared.Requirement.{Requirement}
 use Rattle.rules.specs.declared.RequirementNumber.{RequirementNumber}
 use Rattle.rules.specs.declared.Listing.{Listing}
 use Rattle.rules.specs.declared.Encoding.{Encoding}
 use Rattle.rules.specs.declared.Verdict.{Verdict}
-use Rattle.rules.specs.declared.Refusal.{Refusal}
 use Rattle.rules.specs.declared.Refusal.the-variants.{Limit}
 use Rattle.fair.specs.Fair.{fair}
 

@@ -1,7 +1,7 @@
 -- Requirements as cards over a table of blocks, and the gain table over a list of them.
-use mathlib.Core.Bool.{Bool, true, false, cond}
+use mathlib.Core.Bool.{cond}
 use mathlib.Core.List.{List, [], _∷_, map}
-use Prim.Native.Nat.{ℕ, zero, suc, _+_, _/_, _%_}
+use Prim.Native.Nat.{ℕ, _+_, _/_, _%_}
 use lib.ListN.{getD}
 use Rattle.rules.specs.Requirements.{asks}
 use Rattle.rules.specs.declared.Requirement.{Requirement}

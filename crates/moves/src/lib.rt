@@ -30,7 +30,7 @@ fn look_at(f: u64, g: u64, b: u64, a: u64, s: usize, t: &mut [u32]) -> usize
 }
 
 // Block k of the table, none where it has not so many.
-fn block_at(blocks: &[u64], k: usize) -> u64
+pub fn block_at(blocks: &[u64], k: usize) -> u64
     ensures { λ r. ⌜ r ≡ getD (now (blocks .entry)) k 0 ⌝ }
 {
     if k < blocks.len() {

@@ -8,7 +8,7 @@ use choice::best_of;
 use choice::choose;
 use choice::reach;
 ghost use mathlib.Core.Path.{_≡_};
-ghost use Prim.Native.Nat.{_+_, _<_, _≤_, _%_};
+ghost use Prim.Native.Nat.{_+_, _<_, _≤_};
 ghost use lib.ListN.{length};
 ghost use Rattle.moves.specs.Moves.{drawn};
 ghost use Rattle.passes.specs.Index.{membersIn, Index};

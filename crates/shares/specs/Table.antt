@@ -1,12 +1,11 @@
 -- The gain table: for each state a level, with `level` for a gain of 0, and what one requirement adds to it.
-use mathlib.Core.Bool.{Bool, true, false, _&&_, _||_, cond}
+use mathlib.Core.Bool.{Bool, _&&_, _||_, cond}
 use mathlib.Core.List.{List, [], _∷_}
-use Prim.Native.Nat.{ℕ, zero, suc, _+_, _*_, _%_, _^_}
+use Prim.Native.Nat.{ℕ, suc, _+_, _%_, _^_}
 use lib.Bits.{bitOr}
 use lib.Dec.{eqb}
 use Rattle.sets.specs.Sets.{has}
 use Rattle.sets.specs.Blocks.{wrong, nearMask, makes, breaks}
-use Rattle.rules.specs.declared.Requirement.{Requirement}
 
 -- a gain of 0, far from both ends of 32 digits
 abbrev pub level : ℕ

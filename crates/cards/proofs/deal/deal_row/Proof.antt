@@ -7,7 +7,8 @@ use lib.ListN.{getD}
 use Rattle.sets.specs.Sets.{statesFrom}
 use Rattle.rules.specs.Requirements.{outside}
 use Rattle.cards.specs.Cards.{groupPlace, withStates}
-use Rattle.cards.specs.Dealing.{earlierGroups, cardsOfRow}
+use Rattle.asking.specs.Asking.{earlierGroups}
+use Rattle.cards.specs.Dealing.{cardsOfRow}
 use Rattle.cards.proofs.Rows.{row-asks, row-silent}
 use Rattle.cards.proofs.Dealing.{dealt-none}
 use Rattle.cards.proofs.deal.deal_row.Statement.{statement}

@@ -6,7 +6,8 @@ use native.Mathlib.Omega.{arith}
 use borrow.Author.Needs.{needs}
 use lib.ListN.{length, drop}
 use Rattle.cards.specs.Cards.{groupCards}
-use Rattle.cards.specs.Dealing.{earlierGroups, cardsOfRow}
+use Rattle.asking.specs.Asking.{earlierGroups}
+use Rattle.cards.specs.Dealing.{cardsOfRow}
 use Rattle.cards.proofs.Rows.{rows-more, rows-none}
 use Rattle.cards.proofs.Dealing.{Ahead, ahead-first, ahead-room, ahead-goes, ahead-done}
 use Rattle.cards.proofs.deal.groups.Statement.{statement}

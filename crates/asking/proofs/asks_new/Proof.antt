@@ -1,4 +1,4 @@
--- `cards::deal::asks_new` meets its contract: two tests of the group's size, and whether it has stood.
+-- `asking::asks_new` meets its contract: two tests of the group's size, and whether it has stood.
 use mathlib.Core.Path.{_≡_, refl, sym, ap, _∙_}
 use mathlib.Core.Bool.{true, false, not}
 use native.Mathlib.Omega.{arith}
@@ -6,10 +6,10 @@ use borrow.Author.Needs.{needs}
 use borrow.Author.Tests.{lt-ltb, le-ltb, le-leb, lt-leb}
 use lib.Dec.{leb, ltb}
 use Rattle.sets.specs.Sets.{size}
-use Rattle.cards.specs.Dealing.{earlierGroups}
-use Rattle.cards.proofs.Rows.{asks-each}
-use Rattle.cards.proofs.deal.asks_new.Statement.{statement}
-use Rattle.cards.proofs.deal.asks_new.Tie as tie
+use Rattle.asking.specs.Asking.{earlierGroups}
+use Rattle.asking.proofs.Earlier.{asks-each}
+use Rattle.asking.proofs.asks_new.Statement.{statement}
+use Rattle.asking.proofs.asks_new.Tie as tie
 
 size-of-requires : tie.Need-size-of-requires
 size-of-requires c κs = search needs
