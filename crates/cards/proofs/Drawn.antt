@@ -91,13 +91,13 @@ dichotomies-show : (blocks : List ℕ) (d : ℕ) (ds : List Requirement) → d +
     → ((j k : ℕ) → d + j ≡ k → j < length ds → getD blocks (firstPlace k) 0 ≡ getD ds j noRequirement .first)
     → ((j k : ℕ) → d + j ≡ k → j < length ds → getD blocks (secondPlace k) 0 ≡ getD ds j noRequirement .second)
     → drawn blocks (dichotomyCards d (length ds)) ≡ ds
-unfolding dichotomyCards
+unfolding dichotomyCards statesFrom
 dichotomies-show blocks d [] h f g = refl
 dichotomies-show blocks d (x ∷ xs) h f g =
     ap₂ {C = List Requirement} (λ y ys. y ∷ ys)
     (card-shows blocks (firstPlace d) (secondPlace d) (omega arith) (omega arith)
     ∙ ap₂ asks (f 0 d (omega arith) (omega arith)) (g 0 d (omega arith) (omega arith)))
-    (dichotomies-show blocks (d + 1) xs (omega arith)
+    (dichotomies-show blocks (suc d) xs (omega arith)
     (λ j k e q. f (suc j) k (omega arith) (omega arith))
     (λ j k e q. g (suc j) k (omega arith) (omega arith)))
 

@@ -48,9 +48,9 @@ plain-groups n r earlier (g ∷ gs) =
     plain-append (rowCards n r earlier g) (groupCards n (r + 1) hs gs) (plain-row n r earlier g) (plain-groups n (r + 1) hs gs)
 
 plain-dichotomies : (d k : ℕ) → AllPlain (dichotomyCards d k)
-unfolding dichotomyCards
+unfolding dichotomyCards statesFrom
 plain-dichotomies d zero = tt
-plain-dichotomies d (suc k) = (omega arith, plain-dichotomies (d + 1) k)
+plain-dichotomies d (suc k) = (omega arith, plain-dichotomies (suc d) k)
 
 pub plain-cards : (t : Listing) → AllPlain (cardsOf t)
 unfolding cardsOf

@@ -1,7 +1,7 @@
 -- The states from one on, as a loop over them meets them: the first, and those behind it; and the cards that they make.
 use mathlib.Core.Path.{_≡_, refl, sym, ap, _∙_}
 use mathlib.Core.Bool.{true, false}
-use mathlib.Core.List.{List, [], _∷_, _++_, map-append}
+use mathlib.Core.List.{List, [], _∷_, _++_, map, map-append}
 use Prim.Native.Nat.{ℕ, zero, suc, _+_, _-_, _≤_, _<_}
 use native.Mathlib.Numerals.{add-one}
 use native.Mathlib.Omega.{arith}
@@ -89,14 +89,8 @@ module _ (i n : ℕ) where
 module _ (d n : ℕ) where
   pub dichotomies-more : d < n → dichotomyCards d (n - d) ≡ (placed (firstPlace d) (secondPlace d) ∷ []) ++ dichotomyCards (d + 1) (n - (d + 1))
   unfolding dichotomyCards
-  dichotomies-more h = ap (dichotomyCards d) left
-    where
-      left : n - d ≡ suc (n - (d + 1))
-      left = omega arith
+  dichotomies-more h = ap (map (λ i. placed (firstPlace i) (secondPlace i))) (states-more d n h)
 
   pub dichotomies-none : n ≤ d → dichotomyCards d (n - d) ≡ []
   unfolding dichotomyCards
-  dichotomies-none h = ap (dichotomyCards d) none
-    where
-      none : n - d ≡ 0
-      none = omega arith
+  dichotomies-none h = ap (map (λ i. placed (firstPlace i) (secondPlace i))) (states-none d n h)

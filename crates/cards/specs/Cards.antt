@@ -2,7 +2,7 @@
 use mathlib.Core.Bool.{cond}
 use mathlib.Core.Path.{_≡_}
 use mathlib.Core.List.{List, [], _∷_, _++_, map}
-use Prim.Native.Nat.{ℕ, zero, suc, _+_, _*_, _<_}
+use Prim.Native.Nat.{ℕ, _+_, _*_, _<_}
 use lib.ListN.{length, getD}
 use Rattle.asking.specs.Asking.{asksNew}
 use Rattle.sets.specs.Sets.{only, statesFrom}
@@ -52,8 +52,8 @@ groupCards n r earlier (g ∷ gs) = rowCards n r earlier g ++ groupCards n (r + 
 
 -- k dichotomies from number d on
 unfoldable pub dichotomyCards : ℕ → ℕ → List ℕ
-dichotomyCards d zero = []
-dichotomyCards d (suc k) = placed (firstPlace d) (secondPlace d) ∷ dichotomyCards (d + 1) k
+unfolding statesFrom
+dichotomyCards d k = map (λ i. placed (firstPlace i) (secondPlace i)) (statesFrom d k)
 
 -- the cards of n states, of rows with these groups and of d dichotomies
 unfoldable pub allCards : ℕ → List ℕ → ℕ → List ℕ

@@ -2,7 +2,7 @@
 use mathlib.Core.Path.{_≡_, refl, sym, ap, ap₂, _∙_, subst}
 use mathlib.Core.Bool.{Bool, true, false, cond, not, _&&_, true≢false}
 use mathlib.Core.List.{List}
-use Prim.Native.Nat.{ℕ, zero, suc, _-_, _≤_}
+use Prim.Native.Nat.{ℕ, zero, suc, _-_}
 use native.Mathlib.Omega.{arith}
 use lib.Dec.{eqb}
 use lib.ListN.{length, drop, replicate, length-replicate}
@@ -14,6 +14,7 @@ use Rattle.rules.specs.declared.Listing.{Listing}
 use Rattle.rules.specs.declared.Encoding.{Encoding}
 use Rattle.rules.specs.declared.Verdict.{Verdict}
 use Rattle.rules.specs.declared.Refusal.the-variants.{Limit, TooWide, Stalled}
+use Rattle.rules.proofs.Built.{mostOf, most-few}
 use Rattle.moves.specs.Moves.{drawn}
 use Rattle.moves.proofs.Ready.{Ready}
 use Rattle.fair.specs.Fair.{fair}
@@ -30,16 +31,6 @@ drop-replicate (suc k) zero v = let e : 0 ≡ 0 - suc k = omega arith in ap (λ 
 drop-replicate (suc k) (suc w) v = let e : w - k ≡ suc w - suc k = omega arith in drop-replicate k w v ∙ ap (λ (j : ℕ). replicate j v) e
 
 module _ (t : Listing) (f : fair t ≡ true) where
-  abbrev most : ℕ
-  most = cond (eqb (t .head .width) 0) most-bits (t .head .width)
-
-  most-few : most ≤ most-bits
-  most-few = go (eqb (t .head .width) 0)
-    where
-      go : (a : Bool) → cond a most-bits (t .head .width) ≤ most-bits
-      go true = omega arith
-      go false = fair-grants t f .limits .few-bits
-
   module _ (blocks cards : List ℕ) (l : Laid t blocks) (p : cards ≡ numbered 0 (cardsOf t)) where
     pub cards-show : drawn blocks cards ≡ requirements t
     cards-show = ap (drawn blocks) p ∙ drawn-requirements t f blocks l
@@ -50,7 +41,7 @@ module _ (t : Listing) (f : fair t ≡ true) where
     pub as-many-asked : length cards ≡ length (requirements t)
     as-many-asked = as-many ∙ as-many-cards t f
 
-    pub begun : (m : ℕ) (by : List ℕ) → m ≡ most → by ≡ replicate most-asked no-bit
+    pub begun : (m : ℕ) (by : List ℕ) → m ≡ mostOf t → by ≡ replicate most-asked no-bit
         → Begun blocks (t .head .states) m cards by (replicate most-bits 0)
     begun m by em eb = record {
       ready = subst (Ready (t .head .states)) (sym cards-show) record {
@@ -61,14 +52,14 @@ module _ (t : Listing) (f : fair t ≡ true) where
       };
       few = omega (arith, as-many, few-cards t f);
       numbers = λ i h. rw p (card-number t f i (omega (arith, as-many)));
-      width = rw em most-few;
+      width = rw em (most-few t (fair-grants t f .limits .few-bits));
       room = length-replicate {A = ℕ} most-bits 0;
       blank = eb;
     }
 
   -- ---- what a run came to, for the requirements of t
 
-  module _ (m : ℕ) (em : m ≡ most) (rs : List Requirement) (e : rs ≡ requirements t) where
+  module _ (m : ℕ) (em : m ≡ mostOf t) (rs : List Requirement) (e : rs ≡ requirements t) where
     coding-is : (a : Coding) → build m (t .head .states) rs ≡ a → coding t ≡ wideEnough t a
     unfolding coding
     coding-is a h = ap₂ (λ (k : ℕ) (x : List Requirement). wideEnough t (build k (t .head .states) x)) (sym em) (sym e) ∙ ap (wideEnough t) h
@@ -102,18 +93,7 @@ module _ (t : Listing) (f : fair t ≡ true) where
         looks = looks;
       } (encodedAs t (coding t))
       unfolding encodedAs
-      wide-enough asked k h = whole ∙ sym (ap (encodedAs t) (code-is false h))
-        where
-          whole : _≡_ {A = Encoding} record {
-            verdict = Verdict.Accepted;
-            width = width;
-            bits = bits;
-            asked = asked;
-            by = by;
-            passes = passes;
-            looks = looks;
-          } (encodedAs t (coded (d .code)))
-          whole = rw (d .wide, d .shown, drop-replicate (length (d .code .bits)) most-bits 0, d .noted, d .took, d .looked, k, e) refl
+      wide-enough asked k h = rw (code-is false h, d .wide, d .shown, drop-replicate (length (d .code .bits)) most-bits 0, d .noted, d .took, d .looked, k, e) refl
 
 -- ---- a listing is fair, or it is not
 

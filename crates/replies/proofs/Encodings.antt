@@ -1,25 +1,24 @@
 -- What the encoder answers for a sound listing: its code, held whole and within bounds, or 01's refusal.
 use mathlib.Core.Path.{_≡_, refl, sym, ap, _∙_, subst}
-use mathlib.Core.Bool.{Bool, true, false, cond, not, _&&_}
+use mathlib.Core.Bool.{false}
 use mathlib.Core.Logic.{_↔_}
 use mathlib.Core.List.{map}
 use Prim.Native.Nat.{ℕ, _-_, _≤_, _<_}
 use native.Mathlib.Omega.{arith}
-use lib.Dec.{eqb}
 use lib.ListN.{length, getD, replicate, length-map, List·getD-append}
 use lib.Seq.{take-append-seam}
 use Rattle.rules.specs.Limits.{most-bits}
 use Rattle.rules.specs.Listing.{noRequirement}
 use Rattle.rules.specs.Requirements.{metByCode, requirements}
-use Rattle.rules.specs.Code.{Code, Coding, coded, uncoded, build, coding, wideEnough, unmet}
+use Rattle.rules.specs.Code.{Code, Coding, coded, uncoded, coding}
 use Rattle.rules.specs.declared.Listing.{Listing}
 use Rattle.rules.specs.declared.Encoding.{Encoding}
 use Rattle.rules.specs.declared.Verdict.{Verdict}
 use Rattle.rules.specs.declared.Refusal.{Refusal}
-use Rattle.rules.specs.declared.Refusal.the-variants.{TooWide}
 use Rattle.rules.proofs.Sound.{Sound}
 use Rattle.rules.proofs.Most.{most-requirements}
-use Rattle.rules.proofs.Built.{built}
+use Rattle.rules.proofs.Built.{mostOf, most-few, was-built}
+use Rattle.rules.proofs.Good.{code-built}
 use Rattle.moves.proofs.Ready.{sound-ready}
 use Rattle.cards.proofs.FairListings.{sound-fair}
 use Rattle.encoding.specs.Encode.{most-asked, no-bit, padded, metFirst, encodedAs, encoded}
@@ -30,35 +29,15 @@ use Rattle.report.specs.Report.{noBit, Holds}
 use Rattle.replies.specs.Saying.{Whole}
 
 module _ (t : Listing) (s : Sound t) where
-  abbrev most : ℕ
-  most = cond (eqb (t .head .width) 0) most-bits (t .head .width)
-
-  most-few : most ≤ most-bits
-  most-few = go (eqb (t .head .width) 0)
-    where
-      go : (a : Bool) → cond a most-bits (t .head .width) ≤ most-bits
-      go true = omega arith
-      go false = s .head .few-bits
-
-  -- a code that is wide enough was built
-  was-built : (c : Code) → coding t ≡ coded c → build most (t .head .states) (requirements t) ≡ coded c
-  unfolding coding
-  was-built c e = go (build most (t .head .states) (requirements t)) e
-    where
-      go : (a : Coding) → wideEnough t a ≡ coded c → a ≡ coded c
-      go (coded d) h = kept (eqb (t .head .width) 0 && not (eqb (length (unmet t (d .bits))) 0)) h
-        where
-          kept : (b : Bool) → cond b (uncoded TooWide) (coded d) ≡ coded c → coded d ≡ coded c
-          kept true h = absurd (let z : _≡_ {A = ℕ} 0 1 = ap (λ (a : Coding). elim a [ coded c ↦ 1 | uncoded r ↦ 0 ]) h in omega arith)
-          kept false h = h
-      go (uncoded r) h = h
+  few-bits : mostOf t ≤ most-bits
+  few-bits = most-few t (s .head .few-bits)
 
   module _ (c : Code) (e : coding t ≡ coded c) where
     narrow : length (c .bits) ≤ most-bits
-    narrow = omega (arith, built most (t .head .states) (requirements t) c (was-built c e) .few, most-few)
+    narrow = omega (arith, code-built t s c e .few, few-bits)
 
-    counters : FewIn most c
-    counters = few-counted most (t .head .states) (requirements t) c (sound-ready t s) (was-built c e)
+    counters : FewIn (mostOf t) c
+    counters = few-counted (mostOf t) (t .head .states) (requirements t) c (sound-ready t s) (was-built t c e)
 
     noted-unmet : (k : ℕ) → k < length (requirements t) → getD (encodedAs t (coded c) .by) k 0 ≡ noBit ↔ metByCode (t .head .states) (c .bits) (getD (requirements t) k noRequirement) ≡ false
     unfolding encodedAs
@@ -92,8 +71,8 @@ module _ (t : Listing) (s : Sound t) where
       places =
           padded-length most-asked no-bit (map (metFirst 0 (t .head .states) (c .bits)) (requirements t))
           (omega (arith, most-requirements t s, length-map (requirements t) (metFirst 0 (t .head .states) (c .bits))));
-      few-passes = omega (arith, counters .passes, most-few);
-      few-looks = omega (arith, counters .looks, most-few);
+      few-passes = omega (arith, counters .passes, few-bits);
+      few-looks = omega (arith, counters .looks, few-bits);
     }
 
   fair-encoded : encoded t ≡ encodedAs t (coding t)

@@ -1,17 +1,19 @@
 -- What a code is: its bits are built one after the other, each for the requirements that no earlier bit meets.
 use mathlib.Core.Path.{_≡_, refl, sym, ap, _∙_}
-use mathlib.Core.Bool.{Bool, true, false}
+use mathlib.Core.Bool.{Bool, true, false, _&&_, not, cond}
 use mathlib.Core.List.{List, [], _∷_}
 use Prim.Native.Nat.{ℕ, zero, suc, _≤_, _<_}
 use native.Mathlib.Omega.{arith}
 use lib.Dec.{eqb}
 use lib.ListN.{length, getD, take}
 use borrow.Author.Tests.{eqb-false}
-use Rattle.rules.specs.Requirements.{met}
+use Rattle.rules.specs.Limits.{most-bits}
+use Rattle.rules.specs.Requirements.{met, requirements}
 use Rattle.rules.specs.OneBit.{Bit, newBit}
-use Rattle.rules.specs.Code.{Code, Coding, coded, uncoded, noCode, joined, unmetBy, build}
+use Rattle.rules.specs.Code.{Code, Coding, coded, uncoded, noCode, joined, unmetBy, build, unmet, wideEnough, coding}
 use Rattle.rules.specs.declared.Requirement.{Requirement}
-use Rattle.rules.specs.declared.Refusal.the-variants.{Stalled}
+use Rattle.rules.specs.declared.Listing.{Listing}
+use Rattle.rules.specs.declared.Refusal.the-variants.{TooWide, Stalled}
 use Rattle.rules.proofs.Unmet.{unmetIn, unmet-all, unmet-then, left-met, left-unmet}
 
 -- of n states and the requirements rs, at most k bits
@@ -103,3 +105,30 @@ built (suc k) n (r ∷ rs) c e =
     let b : ℕ = newBit n (r ∷ rs) .bit in
     let f : First k n (r ∷ rs) b c = first k n r rs c e in
     rw (f .bits) (built-more k n (r ∷ rs) b (f .rest .bits) refl (f .fewer) (built k n (unmetBy n b (r ∷ rs)) (f .rest) (f .behind)))
+
+-- ---- the code of a listing
+
+-- how many bits it has at most
+abbrev pub mostOf : Listing → ℕ
+mostOf t = cond (eqb (t .head .width) 0) most-bits (t .head .width)
+
+pub most-few : (t : Listing) → t .head .width ≤ most-bits → mostOf t ≤ most-bits
+most-few t h = go (eqb (t .head .width) 0)
+  where
+    go : (a : Bool) → cond a most-bits (t .head .width) ≤ most-bits
+    go true = omega arith
+    go false = h
+
+-- a code that is wide enough was built
+not-wide : (t : Listing) (g : Coding) (c : Code) → wideEnough t g ≡ coded c → g ≡ coded c
+unfolding unmet
+not-wide t (uncoded f) c e = e
+not-wide t (coded d) c e = go (eqb (t .head .width) 0 && not (eqb (length (unmet t (d .bits))) 0)) e
+  where
+    go : (wide : Bool) → cond wide (uncoded TooWide) (coded d) ≡ coded c → coded d ≡ coded c
+    go true e = absurd (let z : _≡_ {A = ℕ} 0 1 = cc in omega arith)
+    go false e = e
+
+pub was-built : (t : Listing) (c : Code) → coding t ≡ coded c → build (mostOf t) (t .head .states) (requirements t) ≡ coded c
+unfolding coding
+was-built t c e = not-wide t _ c e

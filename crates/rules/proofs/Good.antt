@@ -1,31 +1,28 @@
 -- A requirement of n states: two blocks of those states that share none. Every requirement of a sound listing is one, and so a code's bits are sets of states.
 use mathlib.Core.Path.{_≡_, refl, sym, ap, ap₂, _∙_, subst}
-use mathlib.Core.Bool.{Bool, true, false, _&&_, not, cond}
+use mathlib.Core.Bool.{Bool, true, false, cond}
 use mathlib.Core.List.{List, [], _∷_, _++_, map}
 use Prim.Native.Nat.{ℕ, zero, suc, _+_, _^_, _≤_, _<_, min}
 use native.Mathlib.Decide.{ℕ-discrete}
 use native.Mathlib.Omega.{arith}
 use lib.Bits.{bitAnd}
-use lib.Dec.{eqb}
 use lib.ListN.{length, getD, take, replicate}
 use lib.Pow.{pow-pos, pow-lt}
 use Rattle.sets.specs.Sets.{has, only, statesFrom}
 use Rattle.sets.proofs.Members.{has-lt, has-and, has-none, has-other}
-use Rattle.rules.specs.Limits.{most-bits}
 use Rattle.rules.specs.Listing.{noRow, noRequirement, rowsOf, dichotomiesOf}
 use Rattle.rules.specs.Requirements.{asks, pairs, outside, met, groupAsks, groups, pairsAndGroups, requirements}
 use Rattle.rules.specs.OneBit.{start}
-use Rattle.rules.specs.Code.{Code, Coding, coded, uncoded, unmetBy, unmet, wideEnough, coding, codeOf}
+use Rattle.rules.specs.Code.{Code, coded, unmetBy, coding, codeOf}
 use Rattle.rules.specs.declared.Requirement.{Requirement}
 use Rattle.rules.specs.declared.Row.{Row}
 use Rattle.rules.specs.declared.Listing.{Listing}
-use Rattle.rules.specs.declared.Refusal.the-variants.{TooWide}
 use Rattle.rules.proofs.Counts.{Apart}
 use Rattle.rules.proofs.Runs.{Fresh, Once, Below}
 use Rattle.rules.proofs.Complement.{new-bit-lt, new-bit-zero}
 use Rattle.rules.proofs.Asked.{outside-not, outside-member, newGroup, groups-step}
 use Rattle.rules.proofs.Unmet.{liveAfter, unmetIn, live-unmet, left-met, left-unmet}
-use Rattle.rules.proofs.Built.{Built, built}
+use Rattle.rules.proofs.Built.{Built, built, mostOf, was-built}
 use Rattle.rules.proofs.SoundLines.{SoundBlocks}
 use Rattle.rules.proofs.Sound.{Sound, rows-length, row-of}
 
@@ -163,23 +160,13 @@ requirements-good t s =
 
 -- ---- the code of a sound listing
 
-not-wide : (t : Listing) (g : Coding) (c : Code) → wideEnough t g ≡ coded c → g ≡ coded c
-unfolding unmet
-not-wide t (uncoded f) c e = e
-not-wide t (coded d) c e = go (eqb (t .head .width) 0 && not (eqb (length (unmet t (d .bits))) 0)) e
-  where
-    go : (wide : Bool) → cond wide (uncoded TooWide) (coded d) ≡ coded c → coded d ≡ coded c
-    go true e = absurd (let z : _≡_ {A = ℕ} 0 1 = cc in omega arith)
-    go false e = e
-
 zeros : (bits : List ℕ) (s : ℕ) → ((j : ℕ) → j < length bits → has (getD bits j 0) s ≡ 0) → codeOf bits s ≡ replicate (length bits) 0
 zeros [] s h = refl
 zeros (b ∷ bs) s h = ap₂ {C = List ℕ} (λ x l. x ∷ l) (h 0 (omega arith)) (zeros bs s (λ j q. h (suc j) (omega arith)))
 
 module _ (t : Listing) (s : Sound t) (c : Code) (e : coding t ≡ coded c) where
-  pub code-built : Built (cond (eqb (t .head .width) 0) most-bits (t .head .width)) (t .head .states) (requirements t) (c .bits)
-  unfolding coding
-  code-built = built _ _ _ c (not-wide t _ c e)
+  pub code-built : Built (mostOf t) (t .head .states) (requirements t) (c .bits)
+  code-built = built _ _ _ c (was-built t c e)
 
   -- what the bits before bit j leave live: bit j is built from it
   left : ℕ → List Requirement

@@ -12,7 +12,7 @@ use borrow.Author.Tests.{ne-eqb, eqb-false, leb-false}
 use Rattle.sets.specs.Sets.{has, flip}
 use Rattle.sets.proofs.Members.{has-lt, has-flip, has-flip-other}
 use Rattle.rules.specs.Requirements.{met, metCount}
-use Rattle.rules.specs.Looks.{near, member, looksAt, share}
+use Rattle.rules.specs.Looks.{mustChange, near, member, looksAt, share}
 use Rattle.rules.specs.OneBit.{gain}
 use Rattle.rules.specs.declared.Requirement.{Requirement}
 use Rattle.rules.proofs.Counts.{cost, Apart, cost-turned, cost-flipped, change-flip, change-out}
@@ -53,6 +53,17 @@ or-swap true false = refl
 or-swap false true = refl
 or-swap false false = refl
 
+-- the flip of a member that must change one way round: one fewer must change that way, one more the other
+turns : (n z o b s : ℕ) → s < n → has z s + has o s ≡ 1 → cost z o b s ≡ 1
+    → (mustChange n z o b ≡ suc (mustChange n z o (flip b s))) × (mustChange n o z (flip b s) ≡ suc (mustChange n o z b))
+turns n z o b s hs h c =
+    let p = change-flip n z o b s hs in
+    let q = change-flip n o z b s hs in
+    let c₁ = cost-turned z o b s h in
+    let c₂ = cost-flipped z o b s h in
+    let c₃ = cost-flipped o z b s (omega arith) in
+    (omega arith, omega arith)
+
 module _ (n : ℕ) (r : Requirement) (b s : ℕ) (hs : s < n) where
   share-counts : share n r b s ≡ subℕ (cond (eqb (oneWay n r (flip b s)) 0 || eqb (otherWay n r (flip b s)) 0) 1 0) (cond (eqb (oneWay n r b) 0 || eqb (otherWay n r b) 0) 1 0)
   share-counts = share-is n r b s ∙ ap₂ (λ (x y : Bool). subℕ (cond x 1 0) (cond y 1 0)) (met-counts n r (flip b s)) (met-counts n r b)
@@ -72,24 +83,16 @@ module _ (n : ℕ) (r : Requirement) (b s : ℕ) (hs : s < n) where
     -- a state that must change for first block 0 and second block 1
     pub share-one : cost (r .first) (r .second) b s ≡ 1 → share n r b s ≡ table (oneWay n r b) (otherWay n r b)
     share-one c =
-        let p = change-flip n (r .first) (r .second) b s hs in
-        let q = change-flip n (r .second) (r .first) b s hs in
-        let c₁ = cost-turned (r .first) (r .second) b s h in
-        let c₂ = cost-flipped (r .first) (r .second) b s h in
-        let c₃ = cost-flipped (r .second) (r .first) b s (omega arith) in
-        share-counts ∙ crossing (oneWay n r b) (otherWay n r b) (oneWay n r (flip b s)) (otherWay n r (flip b s)) (omega arith) (omega arith)
+        let x = turns n (r .first) (r .second) b s hs h c in
+        share-counts ∙ crossing (oneWay n r b) (otherWay n r b) (oneWay n r (flip b s)) (otherWay n r (flip b s)) (x .0) (x .1)
 
     -- a state that must change the other way round
     pub share-other : cost (r .first) (r .second) b s ≡ 0 → share n r b s ≡ table (otherWay n r b) (oneWay n r b)
     share-other c =
-        let p = change-flip n (r .first) (r .second) b s hs in
-        let q = change-flip n (r .second) (r .first) b s hs in
-        let c₁ = cost-turned (r .first) (r .second) b s h in
-        let c₂ = cost-flipped (r .first) (r .second) b s h in
-        let c₃ = cost-flipped (r .second) (r .first) b s (omega arith) in
+        let x = turns n (r .second) (r .first) b s hs (omega arith) (omega (arith, cost-turned (r .first) (r .second) b s h)) in
         share-counts
         ∙ ap₂ (λ (x y : Bool). subℕ (cond x 1 0) (cond y 1 0)) (or-swap (eqb (oneWay n r (flip b s)) 0) (eqb (otherWay n r (flip b s)) 0)) (or-swap (eqb (oneWay n r b) 0) (eqb (otherWay n r b) 0))
-        ∙ crossing (otherWay n r b) (oneWay n r b) (otherWay n r (flip b s)) (oneWay n r (flip b s)) (omega arith) (omega arith)
+        ∙ crossing (otherWay n r b) (oneWay n r b) (otherWay n r (flip b s)) (oneWay n r (flip b s)) (x .0) (x .1)
 
 -- ---- a move that does not look
 

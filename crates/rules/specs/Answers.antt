@@ -1,15 +1,15 @@
 -- 01, "Report and cover" and "Refusal numbers": what each call answers, as a program prints it and as a C host gets it.
-use mathlib.Core.Bool.{Bool, true, false, cond}
+use mathlib.Core.Bool.{cond}
 use mathlib.Core.List.{List, [], _∷_, _++_}
 use Prim.Native.Nat.{ℕ}
-use lib.Dec.{leb, ltb}
+use lib.Dec.{leb}
 use lib.ListN.{length, drop}
 use lib.IntN.{ℤ, pos}
 use Rattle.rules.specs.Refusals.{number, minus}
 use Rattle.rules.specs.Text.{bytes, space, lf, decimal}
 use Rattle.rules.specs.Listing.{reading}
 use Rattle.rules.specs.Requirements.{pairsAndGroups}
-use Rattle.rules.specs.Code.{Code, Coding, coded, uncoded, coding, unmetFrom}
+use Rattle.rules.specs.Code.{Coding, coded, uncoded, coding, unmetFrom}
 use Rattle.rules.specs.Report.{report}
 use Rattle.rules.specs.Cover.{cover}
 use Rattle.rules.specs.declared.Listing.{Listing}

@@ -1,12 +1,12 @@
 -- 01, "One bit" and "Refusal numbers" 7 and 8: the code, bit by bit, and the requirements that it leaves unmet.
-use mathlib.Core.Bool.{Bool, true, false, _&&_, not, cond}
+use mathlib.Core.Bool.{true, false, _&&_, not, cond}
 use mathlib.Core.List.{List, [], _∷_, map}
 use Prim.Native.Nat.{ℕ, zero, suc, _+_}
 use lib.Dec.{eqb}
 use lib.ListN.{length}
 use Rattle.sets.specs.Sets.{has}
 use Rattle.rules.specs.Limits.{most-bits}
-use Rattle.rules.specs.Requirements.{met, metByCode, requirements, pairsAndGroups}
+use Rattle.rules.specs.Requirements.{met, metByCode, requirements}
 use Rattle.rules.specs.OneBit.{Bit, newBit}
 use Rattle.rules.specs.declared.Requirement.{Requirement}
 use Rattle.rules.specs.declared.Listing.{Listing}

@@ -1,7 +1,7 @@
 -- 01, "Report and cover": the face of a group (002), the cover's bytes, and when a row fires in the listing and in the cover.
 use mathlib.Core.Bool.{Bool, true, false, _&&_, _||_, not, cond}
 use mathlib.Core.List.{List, [], _∷_, _++_, map}
-use Prim.Native.Nat.{ℕ, zero, suc, _+_}
+use Prim.Native.Nat.{ℕ, _+_}
 use lib.ListN.{length}
 use lib.Dec.{eqb}
 use lib.Bits.{bitAnd}
@@ -9,7 +9,6 @@ use Rattle.sets.specs.Sets.{has, every, statesFrom}
 use Rattle.rules.specs.Text.{bytes, digit, lf, space, dash, nought, one, decimal, fieldAt, split}
 use Rattle.rules.specs.Listing.{rowsOf}
 use Rattle.rules.specs.Requirements.{wholly}
-use Rattle.rules.specs.Code.{codeOf}
 use Rattle.rules.specs.Report.{digits, joinedLines}
 use Rattle.rules.specs.declared.Row.{Row}
 use Rattle.rules.specs.declared.Head.{Head}

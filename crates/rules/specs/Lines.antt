@@ -1,18 +1,16 @@
 -- 01, "The listing": what each line says, or its refusal. Within a line the order is 1, 2, 4, 5; its place, 3, is the listing's to judge.
-use mathlib.Core.Bool.{Bool, true, false, _&&_, _||_, not, cond}
-use mathlib.Core.List.{List, [], _∷_}
+use mathlib.Core.Bool.{Bool, _&&_, cond}
+use mathlib.Core.List.{List}
 use Prim.Native.Nat.{ℕ}
 use lib.ListN.{length}
-use lib.Dec.{leb, ltb, eqb}
+use lib.Dec.{leb, eqb}
 use Rattle.sets.specs.Sets.{size}
 use Rattle.rules.specs.Limits.{most-states, most-inputs, most-outputs, most-bits, most-rows, most-dichotomies}
 use Rattle.rules.specs.Text.{nought, one, dash, plus, dot, split, fieldsOf, fieldAt, sized, setOf, numeralOf}
 use Rattle.rules.specs.declared.Head.{Head}
 use Rattle.rules.specs.declared.Row.{Row}
-use Rattle.rules.specs.declared.Requirement.{Requirement}
 use Rattle.rules.specs.declared.Numeral.{Numeral}
 use Rattle.rules.specs.declared.Numeral.the-variants.{Is, Bad}
-use Rattle.rules.specs.declared.Refusal.{Refusal}
 use Rattle.rules.specs.declared.Refusal.the-variants.{BadLine, Limit, EmptyGroup, NextState}
 use Rattle.rules.specs.declared.HeadLine.{HeadLine}
 use Rattle.rules.specs.declared.RowLine.{RowLine}

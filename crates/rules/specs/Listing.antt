@@ -1,9 +1,9 @@
 -- 01, "The listing" and the order of its refusals: lines from the top, the first faulty line decides, then the conflict.
 use mathlib.Core.Bool.{Bool, true, false, _&&_, _||_, not, cond}
 use mathlib.Core.List.{List, [], _∷_}
-use Prim.Native.Nat.{ℕ, zero, suc, _+_}
+use Prim.Native.Nat.{ℕ, _+_}
 use lib.ListN.{length, take, set, replicate}
-use lib.Dec.{leb, ltb, eqb}
+use lib.Dec.{leb, eqb}
 use lib.Bits.{bitAnd}
 use Rattle.sets.specs.Sets.{has, every}
 use Rattle.rules.specs.Limits.{most-bytes, most-inputs, most-rows, most-dichotomies}

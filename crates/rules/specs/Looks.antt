@@ -1,9 +1,8 @@
 -- 01, "Looks": when a requirement is near, and when a move looks at it.
-use mathlib.Core.Bool.{Bool, true, false, _&&_, _||_, cond}
+use mathlib.Core.Bool.{Bool, _&&_, _||_, cond}
 use mathlib.Core.List.{List, [], _∷_}
-use Prim.Native.Nat.{ℕ, zero, suc, _+_, _-_, _*_}
+use Prim.Native.Nat.{ℕ, _+_, _-_, _*_}
 use lib.Dec.{leb, eqb}
-use lib.Bits.{bitOr}
 use lib.IntN.{ℤ, subℕ}
 use Rattle.sets.specs.Sets.{has, flip, total}
 use Rattle.rules.specs.Requirements.{met}

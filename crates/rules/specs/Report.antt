@@ -1,7 +1,6 @@
 -- 01, "Report and cover": the report's bytes.
-use mathlib.Core.Bool.{Bool, true, false, cond}
 use mathlib.Core.List.{List, [], _∷_, _++_, map}
-use Prim.Native.Nat.{ℕ, zero, suc, _+_}
+use Prim.Native.Nat.{ℕ, _+_}
 use lib.ListN.{length}
 use Rattle.sets.specs.Sets.{statesFrom}
 use Rattle.rules.specs.Text.{bytes, lf, space, dash, nought, decimal}

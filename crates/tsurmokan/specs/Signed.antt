@@ -1,5 +1,5 @@
 -- What was said, as one signed number: 01's "The listing's bytes and an output buffer".
-use Prim.Native.Nat.{ℕ, _<_}
+use Prim.Native.Nat.{_<_}
 use lib.IntN.{ℤ, pos}
 use Rattle.rules.specs.Refusals.{minus}
 use Rattle.replies.specs.declared.Said.{Said}
