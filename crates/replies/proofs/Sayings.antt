@@ -27,8 +27,8 @@ use Rattle.pen.proofs.Laws.{wrote-all, wrote-length}
 use Rattle.report.specs.Report.{unmetIn, encodedReport}
 use Rattle.report.proofs.Same.{same-report, same-unmet}
 use Rattle.report.proofs.Length.{report-length}
-use Rattle.faces.specs.Faces.{Bounded}
-use Rattle.faces.proofs.Length.{cover-length}
+use Rattle.covers.specs.Covers.{Bounded}
+use Rattle.covers.proofs.Length.{cover-length}
 use Rattle.replies.specs.Saying.{saying, Whole, textOf, withheld, replyOf, replyTo}
 use Rattle.replies.specs.declared.Wanted.{Wanted}
 use Rattle.replies.specs.declared.Said.{Said}

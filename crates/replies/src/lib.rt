@@ -34,7 +34,7 @@ fn put_text(out: &mut [u8], wanted: Wanted, t: rules::Listing, e: rules::Encodin
         Wanted::Report => report::put_report(out, t.head.states, e),
         Wanted::Cover => {
             let bits = e.bits;
-            faces::put_cover(out, t, e.width, bits)
+            covers::put_cover(out, t, e.width, bits)
         }
     }
 }

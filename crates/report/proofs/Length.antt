@@ -16,7 +16,8 @@ use Rattle.rules.specs.Code.{codeOf}
 use Rattle.rules.specs.Report.{codeText, countLine, stateLine, unmetLine}
 use Rattle.pen.proofs.Decimal.{decimal-length}
 use Rattle.report.specs.Report.{noBit, unmetIn, stateLines, unmetLines, encodedReport}
-use Rattle.report.proofs.Lines.{count-fields, state-fields, states-none, states-more}
+use Rattle.entries.proofs.Fields.{count-fields, state-fields}
+use Rattle.report.proofs.Lines.{states-none, states-more}
 use Rattle.report.proofs.Unmet.{unmet-in, unmet-out, unmet-empty, lines-empty, lines-cons}
 
 -- ---- lines

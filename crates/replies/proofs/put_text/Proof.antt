@@ -1,7 +1,7 @@
 -- `replies::put_text` meets its contract.
 use Rattle.replies.specs.declared.Wanted.{Wanted}
 use Rattle.replies.specs.Saying.{textOf}
-use Rattle.faces.proofs.Rows.{cover-bounded}
+use Rattle.covers.proofs.Whole.{cover-bounded}
 use Rattle.replies.proofs.Sayings.{bounded}
 use Rattle.pen.proofs.Laws.{wrote-as}
 use mathlib.Core.Path.{sym, ap, _∙_}

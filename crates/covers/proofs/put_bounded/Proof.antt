@@ -1,4 +1,4 @@
--- `faces::put_bounded` meets its contract.
+-- `covers::put_bounded` meets its contract.
 use mathlib.Core.Path.{_≡_, sym, _∙_}
 use Prim.Native.Nat.{_≤_}
 use native.Mathlib.Omega.{arith}
@@ -6,9 +6,9 @@ use lib.ListN.{length, length-map}
 use lib.Seq.{length-take-le}
 use borrow.Author.Needs.{needs}
 use Rattle.pen.proofs.Laws.{wrote-then, wrote-as}
-use Rattle.faces.proofs.Rows.{cover-parts}
-use Rattle.faces.proofs.put_bounded.Statement.{statement}
-use Rattle.faces.proofs.put_bounded.Tie as tie
+use Rattle.covers.proofs.Whole.{cover-parts}
+use Rattle.covers.proofs.put_bounded.Statement.{statement}
+use Rattle.covers.proofs.put_bounded.Tie as tie
 
 -- the lengths of the arrays, and that the bits written are a part of theirs
 bits-length : (c : tie.Start) → length (c .args .t4) ≡ 32

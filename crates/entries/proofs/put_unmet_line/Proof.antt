@@ -1,9 +1,9 @@
--- `report::put_unmet_line` meets its contract.
+-- `entries::put_unmet_line` meets its contract.
 use borrow.Author.Needs.{needs}
 use Rattle.pen.proofs.Laws.{wrote-then}
 use Rattle.rules.specs.Report.{unmetLine}
-use Rattle.report.proofs.put_unmet_line.Statement.{statement}
-use Rattle.report.proofs.put_unmet_line.Tie as tie
+use Rattle.entries.proofs.put_unmet_line.Statement.{statement}
+use Rattle.entries.proofs.put_unmet_line.Tie as tie
 
 slice-aggregate-put-bytes : tie.Need-slice-aggregate-put-bytes
 slice-aggregate-put-bytes c = search needs

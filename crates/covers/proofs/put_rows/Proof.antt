@@ -1,4 +1,4 @@
--- `faces::put_rows` meets its contract. The loop's invariant: what is written is the lines of the first i rows.
+-- `covers::put_rows` meets its contract. The loop's invariant: what is written is the lines of the first i rows.
 use mathlib.Core.Path.{_≡_, sym, ap, _∙_}
 use Prim.Native.Nat.{ℕ, _≤_, _-_}
 use native.Mathlib.Omega.{arith}
@@ -7,10 +7,10 @@ use borrow.Author.Needs.{needs}
 use Rattle.pen.specs.Pen.{Wrote}
 use Rattle.pen.proofs.Laws.{wrote-none, wrote-then, wrote-as, wrote-same}
 use Rattle.pen.proofs.Growing.{take-most}
-use Rattle.faces.specs.Faces.{rowTexts}
-use Rattle.faces.proofs.Rows.{rows-none, rows-more}
-use Rattle.faces.proofs.put_rows.Statement.{statement}
-use Rattle.faces.proofs.put_rows.Tie as tie
+use Rattle.covers.specs.Covers.{rowTexts}
+use Rattle.covers.proofs.Whole.{rows-none, rows-more}
+use Rattle.covers.proofs.put_rows.Statement.{statement}
+use Rattle.covers.proofs.put_rows.Tie as tie
 
 abbrev Inv-loop : tie.InvT-loop
 Inv-loop out₀ at head bits rows table n i₀ to₀ out i to = (i ≤ n) × Wrote out₀ at (rowTexts head bits (take i table)) to out

@@ -1,9 +1,9 @@
--- `faces::is_bounded` meets its contract.
-use Rattle.faces.specs.Faces.{bounded}
+-- `covers::is_bounded` meets its contract.
+use Rattle.covers.specs.Covers.{bounded}
 use mathlib.Core.Path.{refl}
 use borrow.Author.Tests.{le-leb, lt-leb}
-use Rattle.faces.proofs.is_bounded.Statement.{statement}
-use Rattle.faces.proofs.is_bounded.Tie as tie
+use Rattle.covers.proofs.is_bounded.Statement.{statement}
+use Rattle.covers.proofs.is_bounded.Tie as tie
 
 returns : tie.Need-returns
 unfolding bounded

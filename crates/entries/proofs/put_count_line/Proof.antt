@@ -1,9 +1,9 @@
--- `report::put_count_line` meets its contract.
+-- `entries::put_count_line` meets its contract.
 use borrow.Author.Needs.{needs}
 use Rattle.pen.proofs.Laws.{wrote-then, wrote-as}
-use Rattle.report.proofs.Lines.{count-fields}
-use Rattle.report.proofs.put_count_line.Statement.{statement}
-use Rattle.report.proofs.put_count_line.Tie as tie
+use Rattle.entries.proofs.Fields.{count-fields}
+use Rattle.entries.proofs.put_count_line.Statement.{statement}
+use Rattle.entries.proofs.put_count_line.Tie as tie
 
 slice-aggregate-put-bytes : tie.Need-slice-aggregate-put-bytes
 slice-aggregate-put-bytes c = search needs

@@ -1,9 +1,9 @@
--- `report::put_code` meets its contract: a code of no bits is one dash.
+-- `entries::put_code` meets its contract: a code of no bits is one dash.
 use borrow.Author.Needs.{needs}
 use Rattle.pen.proofs.Laws.{wrote-as}
-use Rattle.report.proofs.Lines.{code-none, code-some, code-alone}
-use Rattle.report.proofs.put_code.Statement.{statement}
-use Rattle.report.proofs.put_code.Tie as tie
+use Rattle.entries.proofs.Fields.{code-none, code-some, code-alone}
+use Rattle.entries.proofs.put_code.Statement.{statement}
+use Rattle.entries.proofs.put_code.Tie as tie
 
 put-byte-requires : tie.Need-put-byte-requires
 put-byte-requires c κs = search needs

@@ -1,12 +1,12 @@
--- `faces::put_cover` meets its contract: beyond the limits nothing is written.
+-- `covers::put_cover` meets its contract: beyond the limits nothing is written.
 use Rattle.pen.proofs.Laws.{wrote-as, wrote-none}
-use Rattle.faces.proofs.Rows.{bounded-head, cover-within, cover-beyond}
+use Rattle.covers.proofs.Whole.{bounded-head, cover-within, cover-beyond}
 use mathlib.Core.Path.{sym, _∙_}
 use native.Mathlib.Omega.{arith}
 use borrow.Author.Needs.{needs}
 use lib.ListN.{take}
-use Rattle.faces.proofs.put_cover.Statement.{statement}
-use Rattle.faces.proofs.put_cover.Tie as tie
+use Rattle.covers.proofs.put_cover.Statement.{statement}
+use Rattle.covers.proofs.put_cover.Tie as tie
 
 is-bounded-requires : tie.Need-is-bounded-requires
 is-bounded-requires c κs = search needs

@@ -1,9 +1,9 @@
--- `faces::put_counts` meets its contract.
+-- `covers::put_counts` meets its contract.
 use borrow.Author.Needs.{needs}
 use Rattle.pen.proofs.Laws.{wrote-then}
-use Rattle.faces.specs.Faces.{countsText}
-use Rattle.faces.proofs.put_counts.Statement.{statement}
-use Rattle.faces.proofs.put_counts.Tie as tie
+use Rattle.covers.specs.Covers.{countsText}
+use Rattle.covers.proofs.put_counts.Statement.{statement}
+use Rattle.covers.proofs.put_counts.Tie as tie
 
 slice-aggregate-put-bytes : tie.Need-slice-aggregate-put-bytes
 slice-aggregate-put-bytes c = search needs

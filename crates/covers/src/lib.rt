@@ -1,0 +1,77 @@
+// The cover: its counts, a line for each row, and its end. Marks are fixed byte strings.
+ghost use mathlib.Core.Path.{_≡_};
+ghost use lib.ListN.{take};
+ghost use Rattle.rules.specs.Cover.{cover};
+ghost use Rattle.pen.specs.Pen.{Wrote};
+ghost use Rattle.covers.specs.Covers.{rowTexts, countsText, bounded, coverText, Bounded};
+use rules::Head;
+use rules::Listing;
+use rules::Row;
+
+// A line for each of the first rows of a table.
+fn put_rows(
+    out: &mut [u8],
+    at: usize,
+    head: Head,
+    bits: &[u64],
+    rows: usize,
+    table: [Row; 128],
+) -> usize
+    ensures { λ r. ⌜ Wrote (now (out .entry)) at (rowTexts head (now (bits .entry)) (take rows table)) r (now (out .exit)) ⌝ }
+{
+    let n = pen::at_most(rows, 128);
+    let mut i: usize = 0;
+    let mut to = at;
+    while i < n {
+        let row = table[i];
+        to = faces::put_row(out, to, head, bits, row);
+        i += 1;
+    }
+    to
+}
+
+// `.i`, `.o` and `.p`
+fn put_counts(out: &mut [u8], at: usize, inputs: usize, outputs: usize, rows: usize) -> usize
+    ensures { λ r. ⌜ Wrote (now (out .entry)) at (countsText inputs outputs rows) r (now (out .exit)) ⌝ }
+{
+    let p = pen::put_bytes(out, at, b".i ");
+    let q = pen::put_field(out, p, inputs as u64, 10);
+    let r = pen::put_bytes(out, q, b".o ");
+    let s = pen::put_field(out, r, outputs as u64, 10);
+    let t = pen::put_bytes(out, s, b".p ");
+    pen::put_field(out, t, rows as u64, 10)
+}
+
+// The cover of a listing within the limits, with the first `width` bits of a code, from the buffer's start.
+fn put_bounded(out: &mut [u8], t: Listing, width: usize, bits: [u64; 32]) -> usize
+    requires { ⌜ Bounded (t .head) ⌝ }
+    ensures { λ r. ⌜ Wrote (now (out .entry)) 0 (cover t (take width bits)) r (now (out .exit)) ⌝ }
+{
+    let head = t.head;
+    let table = t.table;
+    let w = pen::at_most(width, 32);
+    let n = pen::at_most(t.rows, 128);
+    let p = put_counts(out, 0, head.inputs + w, w + head.outputs, n);
+    let q = put_rows(out, p, head, &bits[..w], n, table);
+    pen::put_bytes(out, q, b".e\n")
+}
+
+// Whether so many inputs and outputs are within 01's limits.
+fn is_bounded(inputs: usize, outputs: usize) -> bool
+    ensures { λ r. ⌜ r ≡ bounded inputs outputs ⌝ }
+{
+    if rules::MOST_INPUTS < inputs {
+        return false;
+    }
+    outputs <= rules::MOST_OUTPUTS
+}
+
+// The cover of any listing; of one with more inputs or outputs than 01 allows, as no reader gives, no text.
+pub fn put_cover(out: &mut [u8], t: Listing, width: usize, bits: [u64; 32]) -> usize
+    ensures { λ r. ⌜ Wrote (now (out .entry)) 0 (coverText t (take width bits)) r (now (out .exit)) ⌝ }
+{
+    if is_bounded(t.head.inputs, t.head.outputs) {
+        return put_bounded(out, t, width, bits);
+    }
+    0
+}
