@@ -11,6 +11,7 @@ use Rattle.rules.specs.Listing.{noRow, noRequirement, rowsOf, dichotomiesOf}
 use Rattle.rules.specs.declared.Row.{Row}
 use Rattle.rules.specs.declared.Requirement.{Requirement}
 use Rattle.rules.specs.declared.Listing.{Listing}
+use Rattle.rules.proofs.Most.{states-length}
 use Rattle.cards.specs.Cards.{groupPlace, firstPlace, secondPlace, groupsOf, Laid}
 use Rattle.cards.specs.BlockTable.{alone, sides, laidOut, groupsIn}
 use Rattle.fair.proofs.Limits.{Within}
@@ -31,11 +32,6 @@ sets-within l i (v ∷ vs) zero k d e h r =
 sets-within l i (v ∷ vs) (suc j) k d e h r = sets-within (set l i v) (suc i) vs j k d (omega arith) (omega arith) (omega (arith, length-set l i v))
 
 -- ---- lists of blocks
-
-states-length : (a n : ℕ) → length (statesFrom a n) ≡ n
-unfolding statesFrom
-states-length a zero = refl
-states-length a (suc n) = ap suc (states-length (suc a) n)
 
 alone-at : (a n s : ℕ) → s < n → getD (alone (statesFrom a n)) s 0 ≡ only (a + s)
 unfolding statesFrom

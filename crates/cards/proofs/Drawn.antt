@@ -12,6 +12,7 @@ use Rattle.rules.specs.declared.Requirement.{Requirement}
 use Rattle.rules.specs.declared.Row.{Row}
 use Rattle.rules.specs.declared.Listing.{Listing}
 use Rattle.rules.proofs.Runs.{Below}
+use Rattle.rules.proofs.Good.{states-below}
 use Rattle.rules.proofs.Asked.{outside-not, outside-member, newGroup, groups-step}
 use Rattle.moves.specs.Moves.{requirementOf, drawn}
 use Rattle.asking.specs.Asking.{asksNew}
@@ -32,11 +33,6 @@ module _ (blocks : List ℕ) where
       second = omega arith
 
 -- ---- states
-
-states-below : (a n m : ℕ) → a + n ≤ m → Below m (statesFrom a n)
-unfolding statesFrom
-states-below a zero m h = tt
-states-below a (suc n) m h = (omega arith, states-below (suc a) n m (omega arith))
 
 outside-below : (g n : ℕ) (ss : List ℕ) → Below n ss → Below n (outside g ss)
 unfolding outside

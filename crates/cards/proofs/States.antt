@@ -10,7 +10,7 @@ use borrow.Author.Tests.{eqb-true, eqb-false}
 use Rattle.sets.specs.Sets.{has, statesFrom}
 use Rattle.sets.proofs.Members.{has-lt, has-none}
 use Rattle.rules.specs.Requirements.{outside}
-use Rattle.rules.proofs.Asked.{outside-not, outside-member}
+use Rattle.rules.proofs.Asked.{outside-none, outside-not, outside-member}
 use Rattle.cards.specs.Cards.{firstPlace, secondPlace, placed, withStates, pairCards, dichotomyCards}
 
 module _ (s n : ℕ) where
@@ -29,10 +29,6 @@ module _ (s n : ℕ) where
       none = omega arith
 
 -- ---- those outside a set
-
-pub outside-none : (g : ℕ) → outside g [] ≡ []
-unfolding outside
-outside-none g = refl
 
 -- the first, and those behind it
 pub outside-first : (g s : ℕ) (ss : List ℕ) → outside g (s ∷ ss) ≡ outside g (s ∷ []) ++ outside g ss

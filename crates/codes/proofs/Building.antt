@@ -1,6 +1,6 @@
 -- The code, as a loop builds it: the bits, passes and looks so far stand in front of what is still to be built.
 use mathlib.Core.Path.{_≡_, refl, ap, _∙_}
-use mathlib.Core.Bool.{Bool, true, false}
+use mathlib.Core.Bool.{Bool}
 use mathlib.Core.List.{List, [], _∷_, _++_, append-nil, append-assoc}
 use Prim.Native.Nat.{ℕ, zero, suc, _+_, _<_}
 use native.Mathlib.Nat.{add-zero, add-assoc}
@@ -12,22 +12,12 @@ use Rattle.rules.specs.OneBit.{Bit, newBit}
 use Rattle.rules.specs.Code.{Coding, coded, uncoded, noCode, joined, unmetBy, build}
 use Rattle.rules.specs.declared.Requirement.{Requirement}
 use Rattle.rules.specs.declared.Refusal.the-variants.{Stalled}
+use Rattle.rules.proofs.Built.{onward, build-step}
 
 -- a code with these bits in front, and with these passes and looks added
 abbrev pub joinedTo : List ℕ → ℕ → ℕ → Coding → Coding
 joinedTo bits passes looks (coded c) = coded (record { bits = bits ++ c .bits; passes = passes + c .passes; looks = looks + c .looks })
 joinedTo bits passes looks (uncoded r) = uncoded r
-
--- the next bit b, by whether it meets nothing that was unmet
-module _ (k n : ℕ) (rs : List Requirement) (b : Bit) where
-  onward : Bool → Coding
-  onward true = uncoded Stalled
-  onward false = joined b (build k n (unmetBy n (b .bit) rs))
-
-build-step : (k n : ℕ) (r : Requirement) (rs : List Requirement)
-    → build (suc k) n (r ∷ rs) ≡ onward k n (r ∷ rs) (newBit n (r ∷ rs)) (eqb (length (unmetBy n (newBit n (r ∷ rs) .bit) (r ∷ rs))) (length (r ∷ rs)))
-unfolding build onward
-build-step k n r rs = refl
 
 build-next : (k n : ℕ) (rs : List Requirement) → 0 < length rs
     → build (suc k) n rs ≡ onward k n rs (newBit n rs) (eqb (length (unmetBy n (newBit n rs .bit) rs)) (length rs))

@@ -1,7 +1,7 @@
 -- How long a row of the cover is.
-use mathlib.Core.Path.{_≡_, refl, ap, _∙_}
+use mathlib.Core.Path.{_≡_, _∙_}
 use mathlib.Core.List.{List}
-use Prim.Native.Nat.{ℕ, zero, suc, _+_}
+use Prim.Native.Nat.{ℕ, _+_}
 use native.Mathlib.Omega.{arith}
 use lib.ListN.{length, length-append, length-map}
 use Rattle.sets.specs.Sets.{statesFrom}
@@ -9,14 +9,10 @@ use Rattle.rules.specs.Cover.{faceAt, nextCode, cover}
 use Rattle.rules.specs.declared.Head.{Head}
 use Rattle.rules.specs.declared.Row.{Row}
 use Rattle.rules.specs.declared.Pattern.{Pattern}
+use Rattle.rules.proofs.Most.{states-length}
 use Rattle.pen.specs.Pen.{digitsText}
 use Rattle.faces.specs.Faces.{patternAt, patternText, faceText, nextText, rowText}
 use Rattle.faces.proofs.Rows.{row-parts}
-
-states-length : (a n : ℕ) → length (statesFrom a n) ≡ n
-unfolding statesFrom
-states-length a zero = refl
-states-length a (suc n) = ap suc (states-length (suc a) n)
 
 pattern-length : (p : Pattern) (n : ℕ) → length (patternText p n) ≡ n
 unfolding patternText

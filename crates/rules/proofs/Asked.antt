@@ -49,6 +49,10 @@ pair-asked n i j h q = pair-from 0 n i j (omega arith) h (omega arith)
 
 -- ---- groups
 
+pub outside-none : (g : ℕ) → outside g [] ≡ []
+unfolding outside
+outside-none g = refl
+
 module _ (g s : ℕ) (ss : List ℕ) where
   pub outside-not : has g s ≡ 0 → outside g (s ∷ ss) ≡ s ∷ outside g ss
   unfolding outside

@@ -44,7 +44,8 @@ record First (k n : ℕ) (rs : List Requirement) (b : ℕ) (c : Code) : Type 0 w
   fewer : length (unmetBy n b rs) < length rs
 
 module _ (k n : ℕ) (rs : List Requirement) (b : Bit) where
-  onward : Bool → Coding
+  -- the next bit, by whether it meets nothing that was unmet
+  unfoldable pub onward : Bool → Coding
   onward true = uncoded Stalled
   onward false = joined b (build k n (unmetBy n (b .bit) rs))
 
@@ -69,7 +70,7 @@ build-empty k n = refl
 no-bits : (c : Code) → coded noCode ≡ coded c → c .bits ≡ []
 no-bits c e = cc
 
-build-step : (k n : ℕ) (r : Requirement) (rs : List Requirement)
+pub build-step : (k n : ℕ) (r : Requirement) (rs : List Requirement)
     → build (suc k) n (r ∷ rs) ≡ onward k n (r ∷ rs) (newBit n (r ∷ rs)) (eqb (length (unmetBy n (newBit n (r ∷ rs) .bit) (r ∷ rs))) (length (r ∷ rs)))
 unfolding build onward
 build-step k n r rs = refl

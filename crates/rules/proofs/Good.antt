@@ -98,7 +98,7 @@ unfolding statesFrom
 states-once a zero = tt
 states-once a (suc n) = (states-fresh a (suc a) n (omega arith), states-once (suc a) n)
 
-states-below : (a n m : ℕ) → a + n ≤ m → Below m (statesFrom a n)
+pub states-below : (a n m : ℕ) → a + n ≤ m → Below m (statesFrom a n)
 unfolding statesFrom
 states-below a zero m h = tt
 states-below a (suc n) m h = (omega arith, states-below (suc a) n m (omega arith))

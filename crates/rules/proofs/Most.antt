@@ -18,10 +18,10 @@ use Rattle.rules.specs.Requirements.{asks, pairs, outside, stood, groupA
 use Rattle.rules.specs.declared.Requirement.{Requirement}
 use Rattle.rules.specs.declared.Row.{Row}
 use Rattle.rules.specs.declared.Listing.{Listing}
-use Rattle.rules.proofs.Asked.{outside-not, outside-member, newGroup, groups-step}
+use Rattle.rules.proofs.Asked.{outside-none, outside-not, outside-member, newGroup, groups-step}
 use Rattle.rules.proofs.Sound.{Sound, rows-length, row-of}
 
-states-length : (a n : ℕ) → length (statesFrom a n) ≡ n
+pub states-length : (a n : ℕ) → length (statesFrom a n) ≡ n
 unfolding statesFrom
 states-length a zero = refl
 states-length a (suc n) = ap suc (states-length (suc a) n)
@@ -45,10 +45,6 @@ pairs-length (i ∷ js) =
     omega (arith, length-append (map with js) (pairs js), length-map js with, pairs-length js, square n, suc-pred (suc n) n, suc-mul n n)
 
 -- ---- groups
-
-outside-none : (g : ℕ) → outside g [] ≡ []
-unfolding outside
-outside-none g = refl
 
 -- a group asks one requirement for each state outside it
 outside-length : (g : ℕ) (f : ℕ → ℕ) (a n : ℕ) → ((j k : ℕ) → a + j ≡ k → has g k ≡ f j) → length (outside g (statesFrom a n)) + total n f ≡ n

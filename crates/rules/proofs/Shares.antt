@@ -1,6 +1,6 @@
 -- Shares (01, "Looks"): each is 1, 0 or -1 by a table of the two counts, a gain is their sum, and a move that does not look changes none.
 use mathlib.Core.Path.{_≡_, refl, sym, ap, ap₂, _∙_, subst}
-use mathlib.Core.Bool.{Bool, true, false, _&&_, _||_, cond, or-false}
+use mathlib.Core.Bool.{Bool, true, false, _&&_, _||_, cond, or-false, or-comm}
 use mathlib.Core.Logic.{_⊎_, inl, inr}
 use mathlib.Core.List.{List, [], _∷_}
 use Prim.Native.Nat.{ℕ, zero, suc, _+_, _-_, _<_}
@@ -47,22 +47,13 @@ crossing k j k′ j′ p q =
     let c : eqb k 0 ≡ false = ne-eqb k 0 (λ e. omega arith) in
     rw (a, b, c, or-false (eqb k′ 0))
 
-or-swap : (a b : Bool) → (a || b) ≡ (b || a)
-or-swap true true = refl
-or-swap true false = refl
-or-swap false true = refl
-or-swap false false = refl
-
 -- the flip of a member that must change one way round: one fewer must change that way, one more the other
 turns : (n z o b s : ℕ) → s < n → has z s + has o s ≡ 1 → cost z o b s ≡ 1
     → (mustChange n z o b ≡ suc (mustChange n z o (flip b s))) × (mustChange n o z (flip b s) ≡ suc (mustChange n o z b))
-turns n z o b s hs h c =
-    let p = change-flip n z o b s hs in
-    let q = change-flip n o z b s hs in
-    let c₁ = cost-turned z o b s h in
-    let c₂ = cost-flipped z o b s h in
-    let c₃ = cost-flipped o z b s (omega arith) in
-    (omega arith, omega arith)
+turns n z o b s hs h c = (
+  omega (arith, change-flip n z o b s hs, cost-flipped z o b s h),
+  omega (arith, change-flip n o z b s hs, cost-turned z o b s h, cost-flipped o z b s (omega arith)),
+)
 
 module _ (n : ℕ) (r : Requirement) (b s : ℕ) (hs : s < n) where
   share-counts : share n r b s ≡ subℕ (cond (eqb (oneWay n r (flip b s)) 0 || eqb (otherWay n r (flip b s)) 0) 1 0) (cond (eqb (oneWay n r b) 0 || eqb (otherWay n r b) 0) 1 0)
@@ -91,7 +82,7 @@ module _ (n : ℕ) (r : Requirement) (b s : ℕ) (hs : s < n) where
     share-other c =
         let x = turns n (r .second) (r .first) b s hs (omega arith) (omega (arith, cost-turned (r .first) (r .second) b s h)) in
         share-counts
-        ∙ ap₂ (λ (x y : Bool). subℕ (cond x 1 0) (cond y 1 0)) (or-swap (eqb (oneWay n r (flip b s)) 0) (eqb (otherWay n r (flip b s)) 0)) (or-swap (eqb (oneWay n r b) 0) (eqb (otherWay n r b) 0))
+        ∙ ap₂ (λ (x y : Bool). subℕ (cond x 1 0) (cond y 1 0)) (or-comm (eqb (oneWay n r (flip b s)) 0) (eqb (otherWay n r (flip b s)) 0)) (or-comm (eqb (oneWay n r b) 0) (eqb (otherWay n r b) 0))
         ∙ crossing (otherWay n r b) (oneWay n r b) (otherWay n r (flip b s)) (oneWay n r (flip b s)) (x .0) (x .1)
 
 -- ---- a move that does not look
