@@ -108,7 +108,7 @@ def figures(rows, stacks, facts, sizes):
         yield f"| {name} in the library's archive | {size:,} |"
 
 
-WIDTH, HEIGHT, LEFT, BOTTOM, TOP, RIGHT = 760, 520, 80, 70, 50, 20
+WIDTH, HEIGHT, LEFT, BOTTOM, TOP, RIGHT = 780, 520, 80, 70, 50, 40
 COLOURS = {"library": "#1f5fa8", "native": "#c2571a"}
 
 

@@ -8,8 +8,8 @@ use choice::best_of;
 use choice::choose;
 use choice::reach;
 ghost use mathlib.Core.Path.{_≡_};
-ghost use Prim.Native.Nat.{_+_, _<_, _≤_};
-ghost use lib.ListN.{length};
+ghost use Prim.Native.Nat.{_+_, _≤_, _%_};
+ghost use lib.ListN.{length, replicate};
 ghost use Rattle.moves.specs.Moves.{drawn};
 ghost use Rattle.passes.specs.Index.{membersIn, Index};
 ghost use Rattle.choice.specs.Pass.{going, goOn, passed, passesBy, tallied, builtBy};
@@ -108,29 +108,35 @@ fn build_by(blocks: &[u64], cards: &[u32], index: &[u64], n: usize, b: u64) -> B
     run_passes(blocks, cards, index, 64, b)
 }
 
-// The same where the index is still to be made. The fewer cards there are, the smaller the index, since all of it is cleared for each bit.
+// The same where the index is still to be made, in words without a mark.
+fn build_in(blocks: &[u64], cards: &[u32], words: &mut [u64], n: usize, b: u64) -> Built
+    requires { ⌜ (length (now words) % 64 ≡ 0) × (now words ≡ replicate (length (now words)) 0) ⌝ }
+    ensures { λ r. ⌜ r ≡ builtBy n (drawn (now (blocks .entry)) (now (cards .entry))) b ⌝ }
+{
+    index::index_all(blocks, cards, words);
+    build_by(blocks, cards, words, n, b)
+}
+
+// The fewer cards there are, the fewer the words, since all of them are cleared for each bit.
 fn build_few(blocks: &[u64], cards: &[u32], n: usize, b: u64) -> Built
     ensures { λ r. ⌜ r ≡ builtBy n (drawn (now (blocks .entry)) (now (cards .entry))) b ⌝ }
 {
-    let mut index = [0; FEW];
-    index::index_all(blocks, cards, &mut index);
-    build_by(blocks, cards, &index, n, b)
+    let mut words = [0; FEW];
+    build_in(blocks, cards, &mut words, n, b)
 }
 
 fn build_some(blocks: &[u64], cards: &[u32], n: usize, b: u64) -> Built
     ensures { λ r. ⌜ r ≡ builtBy n (drawn (now (blocks .entry)) (now (cards .entry))) b ⌝ }
 {
-    let mut index = [0; SOME];
-    index::index_all(blocks, cards, &mut index);
-    build_by(blocks, cards, &index, n, b)
+    let mut words = [0; SOME];
+    build_in(blocks, cards, &mut words, n, b)
 }
 
 fn build_many(blocks: &[u64], cards: &[u32], n: usize, b: u64) -> Built
     ensures { λ r. ⌜ r ≡ builtBy n (drawn (now (blocks .entry)) (now (cards .entry))) b ⌝ }
 {
-    let mut index = [0; MANY];
-    index::index_all(blocks, cards, &mut index);
-    build_by(blocks, cards, &index, n, b)
+    let mut words = [0; MANY];
+    build_in(blocks, cards, &mut words, n, b)
 }
 
 // A bit built for the requirements of some cards, from the bit b.
