@@ -19,7 +19,7 @@ fn put_rows(
 ) -> usize
     ensures { λ r. ⌜ Wrote (now (out .entry)) at (rowTexts head (now (bits .entry)) (take rows table)) r (now (out .exit)) ⌝ }
 {
-    let n = pen::at_most(rows, 128);
+    let n = sets::least(rows, 128);
     let mut i: usize = 0;
     let mut to = at;
     while i < n {
@@ -49,8 +49,8 @@ fn put_bounded(out: &mut [u8], t: Listing, width: usize, bits: [u64; 32]) -> usi
 {
     let head = t.head;
     let table = t.table;
-    let w = pen::at_most(width, 32);
-    let n = pen::at_most(t.rows, 128);
+    let w = sets::least(width, 32);
+    let n = sets::least(t.rows, 128);
     let p = put_counts(out, 0, head.inputs + w, w + head.outputs, n);
     let q = put_rows(out, p, head, &bits[..w], n, table);
     pen::put_bytes(out, q, b".e\n")

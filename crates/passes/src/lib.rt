@@ -1,5 +1,5 @@
 // One bit, by gain tables: a move touches only the requirements that have the moved state, and their members alone.
-mod index;
+mod marked;
 
 use choice::Built;
 use choice::Passed;
@@ -11,7 +11,7 @@ ghost use mathlib.Core.Path.{_≡_};
 ghost use Prim.Native.Nat.{_+_, _≤_, _%_};
 ghost use lib.ListN.{length, replicate};
 ghost use Rattle.moves.specs.Moves.{drawn};
-ghost use Rattle.passes.specs.Index.{membersIn, Index};
+ghost use Rattle.index.specs.Index.{membersIn, Index};
 ghost use Rattle.choice.specs.Pass.{going, goOn, passed, passesBy, tallied, builtBy};
 
 // How many cards an index has room for: few, some, or all that a listing can ask for. Of more cards those beyond it are visited in every move.
@@ -31,7 +31,7 @@ fn go_on(blocks: &[u64], cards: &[u32], index: &[u64], n: usize, w: Way, t: &mut
     let s = choose(n, free, t);
     let a = sets::flipped(b, s);
     let level = reach(w.level, moves::level_at(t, s));
-    let looks = index::move_marked(blocks, cards, index, b, a, s, t);
+    let looks = marked::move_marked(blocks, cards, index, b, a, s, t);
     let best = w.best;
     Way {
         bit: a,
@@ -97,24 +97,14 @@ fn run_passes(blocks: &[u64], cards: &[u32], index: &[u64], n: usize, start: u64
     }
 }
 
-// A bit built for the requirements of some cards, from the bit b, with their index. Of more than 64 states the first 64 are moved.
-fn build_by(blocks: &[u64], cards: &[u32], index: &[u64], n: usize, b: u64) -> Built
-    requires { ⌜ Index (membersIn (now blocks) (now cards)) (now index) ⌝ }
-    ensures { λ r. ⌜ r ≡ builtBy n (drawn (now (blocks .entry)) (now (cards .entry))) b ⌝ }
-{
-    if n < 64 {
-        return run_passes(blocks, cards, index, n, b);
-    }
-    run_passes(blocks, cards, index, 64, b)
-}
-
-// The same where the index is still to be made, in words without a mark.
+// A bit built for the requirements of some cards, from the bit b, with an index of them made in words without a mark. Of more than 64 states the first
+// 64 are moved.
 fn build_in(blocks: &[u64], cards: &[u32], words: &mut [u64], n: usize, b: u64) -> Built
     requires { ⌜ (length (now words) % 64 ≡ 0) × (now words ≡ replicate (length (now words)) 0) ⌝ }
     ensures { λ r. ⌜ r ≡ builtBy n (drawn (now (blocks .entry)) (now (cards .entry))) b ⌝ }
 {
-    index::index_all(blocks, cards, words);
-    build_by(blocks, cards, words, n, b)
+    marked::index_all(blocks, cards, words);
+    run_passes(blocks, cards, words, sets::least(n, 64), b)
 }
 
 // The fewer cards there are, the fewer the words, since all of them are cleared for each bit.

@@ -106,13 +106,3 @@ pub fn put_values(out: &mut [u8], at: usize, bits: &[u64], g: u64, mixed: u8) ->
     }
     to
 }
-
-// How many of n elements an array of `most` has.
-pub fn at_most(n: usize, most: usize) -> usize
-    ensures { λ r. ⌜ r ≡ min n most ⌝ }
-{
-    if n < most {
-        return n;
-    }
-    most
-}

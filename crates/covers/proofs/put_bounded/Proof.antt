@@ -17,14 +17,14 @@ bits-length c = search needs
 table-length : (c : tie.Start) → length (c .args .t .table) ≡ 128
 table-length c = sym (length-map (c .args .t .table) _) ∙ c .good .1 .0 .1 .1 .1 .1 .0 .1 .0 .1
 
-bits-part : (c : tie.After-at-most) → c .at-most .result ≤ length (c .before .before .before .before .args .t4)
+bits-part : (c : tie.After-least) → c .least .result ≤ length (c .before .before .before .before .args .t4)
 bits-part c = omega (arith, bits-length (c .before .before .before .before))
 
-at-most-requires : tie.Need-at-most-requires
-at-most-requires c κs = search needs
+least-requires : tie.Need-least-requires
+least-requires c κs = search needs
 
-at-most-requires-2 : tie.Need-at-most-requires-2
-at-most-requires-2 c κs = search needs
+least-requires-2 : tie.Need-least-requires-2
+least-requires-2 c κs = search needs
 
 add-put-counts : tie.Need-add-put-counts
 add-put-counts c = search needs
@@ -57,14 +57,14 @@ returns : tie.Need-returns
 returns c =
     wrote-as
     (wrote-then (c .before .before .before .before .before .before .before .before .before .before .before .before .put-counts .ensures) (wrote-then (c .before .before .before .before .before .before .before .put-rows .ensures) (c .before .before .put-bytes .ensures)))
-    (cover-parts _ _ _ (bits-length (c .before .before .before .before .before .before .before .before .before .before .before .before .before .before .before .before .before .before .before .before .before)) (table-length (c .before .before .before .before .before .before .before .before .before .before .before .before .before .before .before .before .before .before .before .before .before)) (c .before .before .before .before .before .before .before .before .before .before .before .before .before .before .before .before .before .at-most .ensures) (c .before .before .before .before .before .before .before .before .before .before .before .before .before .before .before .before .at-most2 .ensures))
+    (cover-parts _ _ _ (bits-length (c .before .before .before .before .before .before .before .before .before .before .before .before .before .before .before .before .before .before .before .before .before)) (table-length (c .before .before .before .before .before .before .before .before .before .before .before .before .before .before .before .before .before .before .before .before .before)) (c .before .before .before .before .before .before .before .before .before .before .before .before .before .before .before .before .before .least .ensures) (c .before .before .before .before .before .before .before .before .before .before .before .before .before .before .before .before .least2 .ensures))
 
 pub put-bounded-spec : {M : Type 1} → statement M
 put-bounded-spec =
     tie.close
     (tie.spec
-    at-most-requires
-    at-most-requires-2
+    least-requires
+    least-requires-2
     add-put-counts
     add-put-counts-2
     put-counts-requires

@@ -21,8 +21,8 @@ abbrev μ-loop : tie.MeasureT-loop
 table-length : (c : tie.Start Inv-loop μ-loop) → length (c .args .t6) ≡ 128
 table-length c = search needs
 
-at-most-requires : tie.Need-at-most-requires Inv-loop μ-loop
-at-most-requires c κs = search needs
+least-requires : tie.Need-least-requires Inv-loop μ-loop
+least-requires c κs = search needs
 
 loop-holds : tie.Need-loop-holds Inv-loop μ-loop
 loop-holds c = (search needs, wrote-as (wrote-none _ _ (omega arith) (omega arith)) (sym (rows-none _ _)))
@@ -54,10 +54,10 @@ same-length c = wrote-same (c .before .loop .inv .1)
 
 returns : tie.Need-returns Inv-loop μ-loop
 returns c =
-    let all : c .before .loop .i ≡ c .before .before .at-most .result = omega arith in
+    let all : c .before .loop .i ≡ c .before .before .least .result = omega arith in
     let rows = take-most (c .before .before .before .before .before .args .rows) 128 (c .before .before .before .before .before .args .t6) (table-length (c .before .before .before .before .before)) in
     wrote-as (c .before .loop .inv .1)
-    (ap (λ (k : ℕ). rowTexts (c .before .before .before .before .before .args .head) (c .before .before .before .before .before .args .bits .now) (take k (c .before .before .before .before .before .args .t6))) (all ∙ c .before .before .at-most .ensures) ∙ ap (rowTexts (c .before .before .before .before .before .args .head) (c .before .before .before .before .before .args .bits .now)) rows)
+    (ap (λ (k : ℕ). rowTexts (c .before .before .before .before .before .args .head) (c .before .before .before .before .before .args .bits .now) (take k (c .before .before .before .before .before .args .t6))) (all ∙ c .before .before .least .ensures) ∙ ap (rowTexts (c .before .before .before .before .before .args .head) (c .before .before .before .before .before .args .bits .now)) rows)
 
 pub put-rows-spec : {M : Type 1} → statement M
 put-rows-spec =
@@ -65,7 +65,7 @@ put-rows-spec =
     (tie.spec
     Inv-loop
     μ-loop
-    at-most-requires
+    least-requires
     loop-holds
     mul-row
     array-copy-out-row

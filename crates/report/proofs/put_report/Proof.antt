@@ -17,17 +17,17 @@ bits-length c = sym (length-map (c .args .e .bits) _) ∙ c .good .1 .1 .0 .1 .1
 by-length : (c : tie.Start) → length (c .args .e .by) ≡ 4400
 by-length c = sym (length-map (c .args .e .by) _) ∙ c .good .1 .1 .0 .1 .1 .1 .1 .1 .1 .0 .1 .0 .1
 
-bits-part : (c : tie.After-at-most) → c .at-most .result ≤ length (c .before .before .args .e .bits)
+bits-part : (c : tie.After-least) → c .least .result ≤ length (c .before .before .args .e .bits)
 bits-part c = omega (arith, bits-length (c .before .before))
 
-by-part : (c : tie.After-at-most2) → c .at-most2 .result ≤ length (c .before .before .before .args .e .by)
+by-part : (c : tie.After-least2) → c .least2 .result ≤ length (c .before .before .before .args .e .by)
 by-part c = omega (arith, by-length (c .before .before .before))
 
-at-most-requires : tie.Need-at-most-requires
-at-most-requires c κs = search needs
+least-requires : tie.Need-least-requires
+least-requires c κs = search needs
 
-at-most-requires-2 : tie.Need-at-most-requires-2
-at-most-requires-2 c κs = search needs
+least-requires-2 : tie.Need-least-requires-2
+least-requires-2 c κs = search needs
 
 array-share-prefix-by : tie.Need-array-share-prefix-by
 array-share-prefix-by c = by-part (c .before .before)
@@ -74,14 +74,14 @@ returns : tie.Need-returns
 returns c =
     wrote-as
     (wrote-then (c .before .before .before .before .before .before .before .before .before .before .before .before .before .before .before .before .before .put-count-line .ensures) (wrote-then (c .before .before .before .before .before .before .before .before .before .before .before .before .put-state-lines .ensures) (wrote-then (c .before .before .before .before .before .before .before .put-unmet-lines .ensures) (c .before .before .put-bytes .ensures))))
-    (report-parts _ _ (bits-length (c .before .before .before .before .before .before .before .before .before .before .before .before .before .before .before .before .before .before .before .before .before .before .before .before .before .before)) (by-length (c .before .before .before .before .before .before .before .before .before .before .before .before .before .before .before .before .before .before .before .before .before .before .before .before .before .before)) (c .before .before .before .before .before .before .before .before .before .before .before .before .before .before .before .before .before .before .before .before .before .before .before .before .at-most .ensures) (c .before .before .before .before .before .before .before .before .before .before .before .before .before .before .before .before .before .before .before .before .before .before .before .at-most2 .ensures) (c .before .before .before .before .before .before .before .before .before .before .before .before .before .before .before .before .before .before .before .unmet-count .ensures))
+    (report-parts _ _ (bits-length (c .before .before .before .before .before .before .before .before .before .before .before .before .before .before .before .before .before .before .before .before .before .before .before .before .before .before)) (by-length (c .before .before .before .before .before .before .before .before .before .before .before .before .before .before .before .before .before .before .before .before .before .before .before .before .before .before)) (c .before .before .before .before .before .before .before .before .before .before .before .before .before .before .before .before .before .before .before .before .before .before .before .before .least .ensures) (c .before .before .before .before .before .before .before .before .before .before .before .before .before .before .before .before .before .before .before .before .before .before .before .least2 .ensures) (c .before .before .before .before .before .before .before .before .before .before .before .before .before .before .before .before .before .before .before .unmet-count .ensures))
 
 pub put-report-spec : {M : Type 1} → statement M
 put-report-spec =
     tie.close
     (tie.spec
-    at-most-requires
-    at-most-requires-2
+    least-requires
+    least-requires-2
     array-share-prefix-by
     slice-aggregate-unmet-count
     unmet-count-requires

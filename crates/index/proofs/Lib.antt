@@ -1,0 +1,5 @@
+pub mod Without
+pub mod Marked
+pub mod Members
+pub mod Indexed
+pub mod Runs

@@ -1,0 +1,72 @@
+-- The index of a list of cards: which of them have a state, 64 cards in a word.
+use mathlib.Core.Path.{_≡_}
+use mathlib.Core.Bool.{Bool, cond}
+use mathlib.Core.List.{List, [], _∷_, map}
+use Prim.Native.Nat.{ℕ, suc, _+_, _*_, _%_, _≤_, _<_}
+use lib.Bits.{bitAnd, bitOr}
+use lib.Dec.{eqb}
+use lib.ListN.{length, getD}
+use Rattle.sets.specs.Sets.{has, flip, everyone}
+use Rattle.sets.specs.Blocks.{nearMask}
+use Rattle.rules.specs.declared.Requirement.{Requirement}
+use Rattle.shares.specs.Table.{weighed, shared, unshared}
+use Rattle.moves.specs.Moves.{firstOf, secondOf}
+
+-- the members of the requirement of a card
+abbrev pub membersOf : List ℕ → ℕ → ℕ
+membersOf blocks c = bitOr (firstOf blocks c) (secondOf blocks c)
+
+-- and of each requirement of a list of cards
+abbrev pub membersIn : List ℕ → List ℕ → List ℕ
+membersIn blocks cards = map (membersOf blocks) cards
+
+-- ---- a visit
+
+-- the requirement with the blocks f and g is near at the bit b, among the states `others` alone
+unfoldable pub nearIn : ℕ → ℕ → ℕ → ℕ → Bool
+unfolding nearMask
+nearIn others f g b = nearMask (bitAnd f others) (bitAnd g others) b
+
+-- the table after its visit in a move from the bit b to the bit a: where it is near, its share at a stands for that at b
+unfoldable pub visited : ℕ → ℕ → ℕ → ℕ → ℕ → List ℕ → List ℕ
+unfolding nearIn weighed
+visited others f g b a t = cond (nearIn others f g b) (shared f g a (unshared f g b t)) t
+
+-- the table after a visit of each of some requirements
+unfoldable pub visitedAll : ℕ → List Requirement → ℕ → ℕ → List ℕ → List ℕ
+unfolding visited
+visitedAll others [] b a t = t
+visitedAll others (r ∷ rs) b a t = visitedAll others rs b a (visited others (r .first) (r .second) b a t)
+
+-- how many of them are near
+unfoldable pub nearCount : ℕ → List Requirement → ℕ → ℕ
+unfolding nearIn
+nearCount others [] b = 0
+nearCount others (r ∷ rs) b = cond (nearIn others (r .first) (r .second) b) 1 0 + nearCount others rs b
+
+-- those of a list that a word marks: the first goes by digit k, the next by the digit behind it
+unfoldable pub marked : ℕ → ℕ → List Requirement → List Requirement
+marked word k [] = []
+marked word k (r ∷ rs) = cond (eqb (has word k) 1) (r ∷ marked word (suc k) rs) (marked word (suc k) rs)
+
+-- all states but s
+unfoldable pub allBut : ℕ → ℕ
+allBut s = flip (everyone 64) s
+
+-- a word marks those of at most 64 sets that have state s
+pub record Marks (sets : List ℕ) (s word : ℕ) : Type 0 where
+  pub few : length sets ≤ 64
+  pub each : (k : ℕ) → k < 64 → has word k ≡ has (getD sets k 0) s
+
+-- an index has 64 words for each run of 64 sets: the word of state s marks those of the run that have it
+pub record Index (sets index : List ℕ) : Type 0 where
+  pub whole : length index % 64 ≡ 0
+  pub each : (u s k : ℕ) → s < 64 → k < 64 → 64 * u + s < length index → has (getD index (64 * u + s) 0) k ≡ has (getD sets (64 * u + k) 0) s
+
+-- of the words from `at` on, one for each state, digit k is turned over for the members of m that are no more in `rest`
+pub record Turned (at k m rest : ℕ) (t t′ : List ℕ) : Type 0 where
+  pub long : length t′ ≡ length t
+  pub part : (s : ℕ) → has rest s ≤ has m s
+  pub each : (s : ℕ) → s < 64 → at + s < length t
+      → getD t′ (at + s) 0 ≡ cond (eqb (has m s) (has rest s)) (getD t (at + s) 0) (flip (getD t (at + s) 0) k)
+  pub other : (p : ℕ) → ((s : ℕ) → s < 64 → p ≡ at + s → ⊥) → getD t′ p 0 ≡ getD t p 0

@@ -1,4 +1,0 @@
-pub mod Picked
-pub mod Without
-pub mod Indexed
-pub mod Runs
