@@ -11,7 +11,6 @@ use lib.ListN.{length, getD, length-map}
 use borrow.Author.Tests.{ne-eqb, eqb-true}
 use Rattle.sets.specs.Sets.{has, flip}
 use Rattle.sets.specs.Blocks.{nearMask}
-use Rattle.rules.specs.declared.Requirement.{Requirement}
 use Rattle.shares.specs.Table.{shared, unshared, lookMask, stepped}
 use Rattle.moves.specs.Moves.{firstOf, secondOf, requirementOf, drawn, moved, looked}
 use Rattle.moves.proofs.Lists.{none-has}

@@ -1,5 +1,5 @@
-// The index of a list of cards says which of them have a state, 64 cards in a word: what is read of one card to make it, and the visit of the
-// cards that a word marks.
+// The index of a list of cards has, for each state and each run of 64 cards, a word that says which of the run have the state: what is read of one card
+// to make it, and the visits of those cards of a run that a word marks.
 use moves::first_of;
 use moves::second_of;
 ghost use mathlib.Core.Path.{_≡_};

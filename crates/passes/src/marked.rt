@@ -1,17 +1,12 @@
-// The index of a list of cards: for each state and each run of 64 cards a word that says which of the run have the state. The words of the run
-// that begins with card `at` begin with word `at` and are as many, so cards and words are gone through in step.
-use moves::first_of;
+// The index of a list of cards is made, and a move goes by it. The words of the run of 64 cards that begins with card `at` begin with word `at` and are
+// as many, so cards and words are gone through in step.
 use moves::move_all;
-use moves::second_of;
 ghost use mathlib.Core.Path.{_≡_};
-ghost use mathlib.Core.Bool.{cond};
-ghost use Prim.Native.Nat.{_+_, _<_, _≤_, _%_, min};
-ghost use lib.Bits.{bitOr};
+ghost use Prim.Native.Nat.{_+_, _<_, _≤_, _%_};
 ghost use lib.ListN.{length, getD, set, replicate};
-ghost use Rattle.sets.specs.Sets.{has, flip};
-ghost use Rattle.shares.specs.Table.{lookMask, stepped};
-ghost use Rattle.moves.specs.Moves.{firstOf, secondOf, drawn, moved, looked};
-ghost use Rattle.index.specs.Index.{membersOf, membersIn, allBut, Marks, Turned, Index};
+ghost use Rattle.sets.specs.Sets.{flip};
+ghost use Rattle.moves.specs.Moves.{drawn, moved, looked};
+ghost use Rattle.index.specs.Index.{membersIn, Turned, Index};
 
 // Digit k of word p turned over, if there is such a word.
 fn turn_one(index: &mut [u64], p: usize, k: usize)
