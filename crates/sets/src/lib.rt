@@ -65,3 +65,13 @@ pub fn everyone_of(n: usize) -> u64
     }
     18446744073709551615
 }
+
+// The lesser of two numbers.
+pub fn least(a: usize, b: usize) -> usize
+    ensures { λ r. ⌜ r ≡ min a b ⌝ }
+{
+    if a < b {
+        return a;
+    }
+    b
+}
