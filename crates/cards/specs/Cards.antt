@@ -1,15 +1,13 @@
 -- Requirements as cards: a card for each, in 01's order, with the places of its blocks in the table of blocks.
 use mathlib.Core.Bool.{cond}
-use mathlib.Core.Path.{_≡_}
 use mathlib.Core.List.{List, [], _∷_, _++_, map}
-use Prim.Native.Nat.{ℕ, _+_, _*_, _<_}
-use lib.ListN.{length, getD}
+use Prim.Native.Nat.{ℕ, _+_, _*_}
+use lib.ListN.{length}
 use Rattle.asking.specs.Asking.{asksNew}
 use Rattle.blocks.specs.BlockTable.{groupPlace, firstPlace, secondPlace, groupsOf}
-use Rattle.sets.specs.Sets.{only, statesFrom}
-use Rattle.rules.specs.Listing.{noRow, noRequirement, rowsOf, dichotomiesOf}
+use Rattle.sets.specs.Sets.{statesFrom}
+use Rattle.rules.specs.Listing.{rowsOf, dichotomiesOf}
 use Rattle.rules.specs.Requirements.{outside, stood}
-use Rattle.rules.specs.declared.Row.{Row}
 use Rattle.rules.specs.declared.Listing.{Listing}
 
 -- a card but for its number: its two blocks' places
