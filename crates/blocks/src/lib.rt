@@ -46,7 +46,8 @@ fn dichotomies(t: Listing, blocks: &mut [u64; 320])
     }
 }
 
-// The table of a listing's blocks, of any Listing value. What is none of its places is left as it was.
+// The table of a listing's blocks, of any Listing value: where it counts more than there are places for, those that have places.
+// What is none of their places is left as it was.
 pub fn lay_blocks(t: Listing, blocks: &mut [u64; 320])
     ensures { λ r. ⌜ now (blocks .exit) ≡ laidOut t (now (blocks .entry)) ⌝ }
 {
