@@ -8,11 +8,11 @@ use lib.ListN.{length, take, length-take}
 use Rattle.rules.specs.declared.Listing.{Listing}
 use Rattle.cards.specs.declared.Hand.{Hand}
 use Rattle.fair.specs.Fair.{fair}
-use Rattle.cards.specs.Cards.{Laid, cardsOf, numbered}
-use Rattle.cards.specs.BlockTable.{laidOut}
+use Rattle.blocks.specs.BlockTable.{Laid, laidOut}
+use Rattle.cards.specs.Cards.{cardsOf, numbered}
 use Rattle.cards.specs.DealtOut.{piled, dealtOut}
 use Rattle.fair.proofs.Limits.{fair-grants}
-use Rattle.cards.proofs.BlockTable.{laid, laid-length}
+use Rattle.blocks.proofs.BlockTable.{laid, laid-length}
 use Rattle.cards.proofs.Dealing.{numbered-length, piled-first}
 use Rattle.cards.proofs.DealtOut.{Out, dealt-fair, dealt-unfair}
 

@@ -10,10 +10,10 @@ use Rattle.rules.specs.declared.Listing.{Listing}
 use Rattle.cards.specs.declared.Hand.{Hand}
 use Rattle.fair.specs.Fair.{fair}
 use Rattle.cards.specs.Cards.{allCards, cardsOf}
-use Rattle.cards.specs.BlockTable.{laidOut, groupsIn}
+use Rattle.blocks.specs.BlockTable.{laidOut, groupsIn}
 use Rattle.cards.specs.DealtOut.{piled, dealtOut}
 use Rattle.fair.proofs.Limits.{Within}
-use Rattle.cards.proofs.BlockTable.{groups-in}
+use Rattle.blocks.proofs.BlockTable.{groups-in}
 
 abbrev pub Out : Type 0
 Out = Hand × List ℕ × List ℕ

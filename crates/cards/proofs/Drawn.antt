@@ -16,8 +16,8 @@ use Rattle.rules.proofs.Good.{states-below}
 use Rattle.rules.proofs.Asked.{outside-not, outside-member, newGroup, groups-step}
 use Rattle.moves.specs.Moves.{requirementOf, drawn}
 use Rattle.asking.specs.Asking.{asksNew}
-use Rattle.cards.specs.Cards.{groupPlace, firstPlace, secondPlace, Laid}
-use Rattle.cards.specs.Cards.{placed, withStates, pairCards, rowCards, groupCards, dichotomyCards, groupsOf, cardsOf}
+use Rattle.blocks.specs.BlockTable.{groupPlace, firstPlace, secondPlace, Laid, groupsOf}
+use Rattle.cards.specs.Cards.{placed, withStates, pairCards, rowCards, groupCards, dichotomyCards, cardsOf}
 use Rattle.fair.proofs.Limits.{Within}
 
 -- ---- one card

@@ -16,11 +16,11 @@ use Rattle.rules.proofs.Most.{most-requirements}
 use Rattle.rules.proofs.Good.{AllGood, requirements-good}
 use Rattle.moves.specs.Moves.{numberOf, requirementOf, drawn}
 use Rattle.fair.specs.Fair.{fair}
-use Rattle.cards.specs.Cards.{Laid, cardsOf, numbered}
+use Rattle.blocks.specs.BlockTable.{Laid, laidOut}
+use Rattle.cards.specs.Cards.{cardsOf, numbered}
 use Rattle.cards.specs.Dealing.{most-cards}
-use Rattle.cards.specs.BlockTable.{laidOut}
 use Rattle.fair.proofs.Limits.{fair-grants, grants-fair}
-use Rattle.cards.proofs.BlockTable.{laid}
+use Rattle.blocks.proofs.BlockTable.{laid}
 use Rattle.cards.proofs.Numbers.{plain-cards, number-is, drawn-numbered}
 use Rattle.cards.proofs.Drawn.{cards-show}
 use Rattle.cards.proofs.Twin.{twin, same-requirements, twin-sound}

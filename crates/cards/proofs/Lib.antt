@@ -1,10 +1,8 @@
 pub mod Dealing
 pub mod States
 pub mod Rows
-pub mod BlockTable
 pub mod DealtOut
 pub mod Answers
-pub mod Laying
 pub mod Numbers
 pub mod Drawn
 pub mod Twin

@@ -12,7 +12,8 @@ use Rattle.rules.specs.declared.Requirement.{Requirement}
 use Rattle.rules.specs.declared.Listing.{Listing}
 use Rattle.moves.specs.Moves.{numberOf, drawn}
 use Rattle.asking.specs.Asking.{asksNew}
-use Rattle.cards.specs.Cards.{groupPlace, withStates, pairCards, rowCards, groupCards, dichotomyCards, groupsOf, cardsOf, numbered}
+use Rattle.blocks.specs.BlockTable.{groupPlace, groupsOf}
+use Rattle.cards.specs.Cards.{withStates, pairCards, rowCards, groupCards, dichotomyCards, cardsOf, numbered}
 
 -- ---- cards without a number
 

@@ -8,8 +8,9 @@ use native.Mathlib.Numerals.{add-one}
 use lib.ListN.{length, drop, drop-of-length-le}
 use lib.Seq.{drop-cons}
 use Rattle.sets.specs.Sets.{statesFrom}
-use Rattle.rules.specs.Requirements.{outside, stood}
-use Rattle.cards.specs.Cards.{groupPlace, withStates, rowCards, groupCards}
+use Rattle.rules.specs.Requirements.{outside}
+use Rattle.blocks.specs.BlockTable.{groupPlace}
+use Rattle.cards.specs.Cards.{withStates, rowCards, groupCards}
 use Rattle.asking.specs.Asking.{earlierGroups, asksNew}
 use Rattle.cards.specs.Dealing.{cardsOfRow}
 

@@ -1,9 +1,8 @@
--- The states from one on, as a loop over them meets them: the first, and those behind it; and the cards that they make.
+-- The cards that the states from one on make, as a loop over them meets them: those of the first, and those of the states behind it.
 use mathlib.Core.Path.{_≡_, refl, sym, ap, _∙_}
 use mathlib.Core.Bool.{true, false}
 use mathlib.Core.List.{List, [], _∷_, _++_, map, map-append}
 use Prim.Native.Nat.{ℕ, zero, suc, _+_, _-_, _≤_, _<_}
-use native.Mathlib.Numerals.{add-one}
 use native.Mathlib.Omega.{arith}
 use lib.Dec.{eqb}
 use borrow.Author.Tests.{eqb-true, eqb-false}
@@ -11,22 +10,9 @@ use Rattle.sets.specs.Sets.{has, statesFrom}
 use Rattle.sets.proofs.Members.{has-lt, has-none}
 use Rattle.rules.specs.Requirements.{outside}
 use Rattle.rules.proofs.Asked.{outside-none, outside-not, outside-member}
-use Rattle.cards.specs.Cards.{firstPlace, secondPlace, placed, withStates, pairCards, dichotomyCards}
-
-module _ (s n : ℕ) where
-  pub states-more : s < n → statesFrom s (n - s) ≡ s ∷ statesFrom (s + 1) (n - (s + 1))
-  unfolding statesFrom
-  states-more h = ap (statesFrom s) left ∙ ap (λ (a : ℕ). s ∷ statesFrom a (n - (s + 1))) (sym (add-one s))
-    where
-      left : n - s ≡ suc (n - (s + 1))
-      left = omega arith
-
-  pub states-none : n ≤ s → statesFrom s (n - s) ≡ []
-  unfolding statesFrom
-  states-none h = ap (statesFrom s) none
-    where
-      none : n - s ≡ 0
-      none = omega arith
+use Rattle.blocks.specs.BlockTable.{firstPlace, secondPlace}
+use Rattle.blocks.proofs.States.{states-more, states-none}
+use Rattle.cards.specs.Cards.{placed, withStates, pairCards, dichotomyCards}
 
 -- ---- those outside a set
 

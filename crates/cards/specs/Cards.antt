@@ -1,32 +1,14 @@
--- Requirements as cards: where each block stands in the table of blocks, and a card for each requirement, in 01's order.
+-- Requirements as cards: a card for each, in 01's order, with the places of its blocks in the table of blocks.
 use mathlib.Core.Bool.{cond}
-use mathlib.Core.Path.{_≡_}
 use mathlib.Core.List.{List, [], _∷_, _++_, map}
-use Prim.Native.Nat.{ℕ, _+_, _*_, _<_}
-use lib.ListN.{length, getD}
+use Prim.Native.Nat.{ℕ, _+_, _*_}
+use lib.ListN.{length}
 use Rattle.asking.specs.Asking.{asksNew}
-use Rattle.sets.specs.Sets.{only, statesFrom}
-use Rattle.rules.specs.Listing.{noRow, noRequirement, rowsOf, dichotomiesOf}
+use Rattle.blocks.specs.BlockTable.{groupPlace, firstPlace, secondPlace, groupsOf}
+use Rattle.sets.specs.Sets.{statesFrom}
+use Rattle.rules.specs.Listing.{rowsOf, dichotomiesOf}
 use Rattle.rules.specs.Requirements.{outside, stood}
-use Rattle.rules.specs.declared.Row.{Row}
 use Rattle.rules.specs.declared.Listing.{Listing}
-
--- The block of state s alone stands at s; the group of row r at 64 + r; the blocks of dichotomy d at 192 + 2 d and behind it.
-abbrev pub groupPlace : ℕ → ℕ
-groupPlace r = 64 + r
-
-abbrev pub firstPlace : ℕ → ℕ
-firstPlace d = 192 + 2 * d
-
-abbrev pub secondPlace : ℕ → ℕ
-secondPlace d = 193 + 2 * d
-
--- the table holds the blocks of a listing
-pub record Laid (t : Listing) (blocks : List ℕ) : Type 0 where
-  pub singles : (s : ℕ) → s < t .head .states → getD blocks s 0 ≡ only s
-  pub groups : (r : ℕ) → r < length (rowsOf t) → getD blocks (groupPlace r) 0 ≡ getD (rowsOf t) r noRow .group
-  pub firsts : (d : ℕ) → d < length (dichotomiesOf t) → getD blocks (firstPlace d) 0 ≡ getD (dichotomiesOf t) d noRequirement .first
-  pub seconds : (d : ℕ) → d < length (dichotomiesOf t) → getD blocks (secondPlace d) 0 ≡ getD (dichotomiesOf t) d noRequirement .second
 
 -- a card but for its number: its two blocks' places
 abbrev pub placed : ℕ → ℕ → ℕ
@@ -59,10 +41,6 @@ dichotomyCards d k = map (λ i. placed (firstPlace i) (secondPlace i)) (statesFr
 unfoldable pub allCards : ℕ → List ℕ → ℕ → List ℕ
 unfolding pairCards groupCards dichotomyCards statesFrom
 allCards n groups d = pairCards (statesFrom 0 n) ++ (groupCards n 0 [] groups ++ dichotomyCards 0 d)
-
--- the groups of some rows
-abbrev pub groupsOf : List Row → List ℕ
-groupsOf rs = map (λ r. r .group) rs
 
 unfoldable pub cardsOf : Listing → List ℕ
 unfolding allCards

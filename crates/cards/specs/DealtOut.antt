@@ -7,7 +7,7 @@ use Rattle.rules.specs.declared.Listing.{Listing}
 use Rattle.cards.specs.declared.Hand.{Hand}
 use Rattle.fair.specs.Fair.{fair}
 use Rattle.cards.specs.Cards.{cardsOf, numbered}
-use Rattle.cards.specs.BlockTable.{laidOut}
+use Rattle.blocks.specs.BlockTable.{laidOut}
 
 -- the cards, numbered from 0, at the start of a pile
 unfoldable pub piled : List ℕ → List ℕ → List ℕ

@@ -1,4 +1,3 @@
 pub mod Cards
 pub mod Dealing
-pub mod BlockTable
 pub mod DealtOut

@@ -1,27 +1,14 @@
 // The requirements of a listing as cards, in order, over a table of its blocks.
 mod deal;
-mod lay;
 
 ghost use mathlib.Core.Path.{_≡_};
-ghost use mathlib.Core.Bool.{true};
 ghost use Prim.Native.Nat.{_≤_};
 ghost use lib.ListN.{length};
-ghost use Rattle.fair.specs.Fair.{withinLimits};
 ghost use Rattle.cards.specs.Cards.{allCards};
 ghost use Rattle.cards.specs.Dealing.{Dealt, Room};
-ghost use Rattle.cards.specs.BlockTable.{laidOut, groupsIn};
+ghost use Rattle.blocks.specs.BlockTable.{groupsIn};
 ghost use Rattle.cards.specs.DealtOut.{dealtOut};
 use rules::Listing;
-
-// The table of a listing's blocks. What is none of its places is left as it was.
-fn lay_blocks(t: Listing, blocks: &mut [u64])
-    requires { ⌜ (withinLimits t ≡ true) × (320 ≤ length (now blocks)) ⌝ }
-    ensures { λ r. ⌜ now (blocks .exit) ≡ laidOut t (now (blocks .entry)) ⌝ }
-{
-    lay::singles(t.head.states, blocks);
-    lay::groups(t, blocks);
-    lay::dichotomies(t, blocks)
-}
 
 // A card for each requirement of n states, of so many rows and of d dichotomies, numbered from 0 in 01's order: pairs, groups,
 // dichotomies. The groups are read in the table of blocks. The answer is how many cards there are.
@@ -48,7 +35,7 @@ pub fn deal_out(t: Listing, blocks: &mut [u64; 320], cards: &mut [u32; 4400]) ->
     if !fair::is_fair(t) {
         return Hand::Unfair;
     }
-    lay_blocks(t, blocks);
+    blocks::lay_blocks(t, blocks);
     let asked = draw(t.head.states, t.rows, t.dichotomies, blocks, cards);
     Hand::Cards(asked)
 }

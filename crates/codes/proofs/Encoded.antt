@@ -18,7 +18,8 @@ use Rattle.rules.proofs.Built.{mostOf, most-few}
 use Rattle.moves.specs.Moves.{drawn}
 use Rattle.moves.proofs.Ready.{Ready}
 use Rattle.fair.specs.Fair.{fair}
-use Rattle.cards.specs.Cards.{Laid, cardsOf, numbered}
+use Rattle.blocks.specs.BlockTable.{Laid}
+use Rattle.cards.specs.Cards.{cardsOf, numbered}
 use Rattle.fair.proofs.Limits.{fair-grants}
 use Rattle.cards.proofs.Dealing.{numbered-length}
 use Rattle.cards.proofs.FairListings.{few-cards, few-requirements, good-requirements, as-many-cards, drawn-requirements, card-number}

@@ -7,7 +7,7 @@ use borrow.Author.Needs.{needs}
 use lib.ListN.{take, drop, length-take}
 use Rattle.sets.specs.Sets.{statesFrom}
 use Rattle.cards.specs.Cards.{pairCards, groupCards, dichotomyCards, allCards}
-use Rattle.cards.specs.BlockTable.{groupsIn}
+use Rattle.blocks.specs.BlockTable.{groupsIn}
 use Rattle.cards.proofs.Dealing.{Ahead, ahead-first, ahead-room, ahead-goes, ahead-done}
 use Rattle.cards.proofs.draw.Statement.{statement}
 use Rattle.cards.proofs.draw.Tie as tie

@@ -6,7 +6,8 @@ use borrow.Author.Needs.{needs}
 use lib.ListN.{getD}
 use Rattle.sets.specs.Sets.{statesFrom}
 use Rattle.rules.specs.Requirements.{outside}
-use Rattle.cards.specs.Cards.{groupPlace, withStates}
+use Rattle.blocks.specs.BlockTable.{groupPlace}
+use Rattle.cards.specs.Cards.{withStates}
 use Rattle.asking.specs.Asking.{earlierGroups}
 use Rattle.cards.specs.Dealing.{cardsOfRow}
 use Rattle.cards.proofs.Rows.{row-asks, row-silent}

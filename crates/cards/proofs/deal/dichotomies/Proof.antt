@@ -4,7 +4,8 @@ use mathlib.Core.Path.{ap}
 use native.Mathlib.Nat.{sub-zero}
 use native.Mathlib.Omega.{arith}
 use borrow.Author.Needs.{needs}
-use Rattle.cards.specs.Cards.{firstPlace, secondPlace, placed, dichotomyCards}
+use Rattle.blocks.specs.BlockTable.{firstPlace, secondPlace}
+use Rattle.cards.specs.Cards.{placed, dichotomyCards}
 use Rattle.cards.proofs.States.{dichotomies-more, dichotomies-none}
 use Rattle.cards.proofs.Dealing.{dealt-one, Ahead, ahead-first, ahead-room, ahead-goes, ahead-done}
 use Rattle.cards.proofs.deal.dichotomies.Statement.{statement}

@@ -1,7 +1,7 @@
 -- The table of blocks, laid out in one go, holds the blocks of a listing, and the groups are read back from it.
 use mathlib.Core.Path.{_≡_, refl, sym, ap, _∙_}
 use mathlib.Core.List.{List, [], _∷_}
-use Prim.Native.Nat.{ℕ, zero, suc, _+_, _*_, _-_, _≤_, _<_}
+use Prim.Native.Nat.{ℕ, zero, suc, _+_, _*_, _-_, _≤_, _<_, min}
 use native.Mathlib.Nat.{zero-add}
 use native.Mathlib.Omega.{arith}
 use lib.ListN.{length, getD, drop, set, length-set, length-map, length-take, length-drop}
@@ -12,8 +12,7 @@ use Rattle.rules.specs.declared.Row.{Row}
 use Rattle.rules.specs.declared.Requirement.{Requirement}
 use Rattle.rules.specs.declared.Listing.{Listing}
 use Rattle.rules.proofs.Most.{states-length}
-use Rattle.cards.specs.Cards.{groupPlace, firstPlace, secondPlace, groupsOf, Laid}
-use Rattle.cards.specs.BlockTable.{alone, sides, laidOut, groupsIn}
+use Rattle.blocks.specs.BlockTable.{groupPlace, firstPlace, secondPlace, alone, groupsOf, sides, laidOut, groupsIn, Laid}
 use Rattle.fair.proofs.Limits.{Within}
 
 -- ---- a run of stores
@@ -103,7 +102,7 @@ module _ (blocks xs ys zs : List ℕ) (long : 320 ≤ length blocks) (few-x : le
 pub laid : (t : Listing) (blocks : List ℕ) → Within t → 320 ≤ length blocks → Laid t (laidOut t blocks)
 unfolding laidOut
 laid t blocks w long =
-    let n : ℕ = t .head .states in
+    let n : ℕ = min (t .head .states) 64 in
     let ds = dichotomiesOf t in
     let xs = alone (statesFrom 0 n) in
     let ys = groupsOf (rowsOf t) in
@@ -111,11 +110,11 @@ laid t blocks w long =
     let long-xs : length xs ≡ n = length-map (statesFrom 0 n) (λ s. only s) ∙ states-length 0 n in
     let long-ys : length ys ≡ length (rowsOf t) = length-map (rowsOf t) (λ r. r .group) in
     let long-zs : length zs ≡ 2 * length ds = sides-length ds in
-    let few-x : length xs ≤ 64 = omega (arith, w .few-states) in
+    let few-x : length xs ≤ 64 = omega arith in
     let few-y : length ys ≤ 128 = omega (arith, w .few-rows, length-take (t .rows) (t .table)) in
     let few-z : length zs ≤ 128 = omega (arith, w .few-dichotomies, length-take (t .dichotomies) (t .asked)) in
     record {
-      singles = λ s h. in-first blocks xs ys zs long few-x few-y few-z s (omega arith) ∙ alone-at 0 n s h ∙ ap (λ (k : ℕ). only k) (zero-add s);
+      singles = λ s h. in-first blocks xs ys zs long few-x few-y few-z s (omega (arith, w .few-states)) ∙ alone-at 0 n s (omega (arith, w .few-states)) ∙ ap (λ (k : ℕ). only k) (zero-add s);
       groups = λ r h. in-second blocks xs ys zs long few-x few-y few-z r (omega arith) ∙ groups-at (rowsOf t) r;
       firsts = λ d h. in-third blocks xs ys zs long few-x few-y few-z (2 * d) (firstPlace d) (omega arith) (omega arith) ∙ first-at ds d h;
       seconds = λ d h. in-third blocks xs ys zs long few-x few-y few-z (1 + 2 * d) (secondPlace d) (omega arith) (omega arith) ∙ second-at ds d h;
@@ -124,7 +123,7 @@ laid t blocks w long =
 pub laid-length : (t : Listing) (blocks : List ℕ) → length (laidOut t blocks) ≡ length blocks
 unfolding laidOut
 laid-length t blocks =
-    let xs = alone (statesFrom 0 (t .head .states)) in
+    let xs = alone (statesFrom 0 (min (t .head .states) 64)) in
     let ys = groupsOf (rowsOf t) in
     length-sets (sets (sets blocks 0 xs) (groupPlace 0) ys) (firstPlace 0) (sides (dichotomiesOf t))
     ∙ length-sets (sets blocks 0 xs) (groupPlace 0) ys

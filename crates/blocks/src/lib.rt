@@ -1,17 +1,15 @@
-// The laying of the table of blocks: states alone, groups, dichotomies.
+// The table of a listing's blocks: states alone, groups, dichotomies.
 ghost use mathlib.Core.Path.{_≡_};
 ghost use Prim.Native.Nat.{_≤_};
-ghost use lib.ListN.{length};
 ghost use lib.Seq.{sets};
 ghost use Rattle.sets.specs.Sets.{statesFrom};
 ghost use Rattle.rules.specs.Listing.{rowsOf, dichotomiesOf};
-ghost use Rattle.cards.specs.Cards.{groupsOf};
-ghost use Rattle.cards.specs.BlockTable.{alone, sides};
+ghost use Rattle.blocks.specs.BlockTable.{groupsOf, alone, sides, laidOut};
 use rules::Listing;
 
 // The n states, each alone.
-pub fn singles(n: usize, blocks: &mut [u64])
-    requires { ⌜ (n ≤ 32) × (320 ≤ length (now blocks)) ⌝ }
+fn singles(n: usize, blocks: &mut [u64; 320])
+    requires { ⌜ n ≤ 64 ⌝ }
     ensures { λ r. ⌜ now (blocks .exit) ≡ sets (now (blocks .entry)) 0 (alone (statesFrom 0 n)) ⌝ }
 {
     let mut s: usize = 0;
@@ -22,12 +20,12 @@ pub fn singles(n: usize, blocks: &mut [u64])
 }
 
 // The groups of the rows.
-pub fn groups(t: Listing, blocks: &mut [u64])
-    requires { ⌜ (t .rows ≤ 128) × (320 ≤ length (now blocks)) ⌝ }
+fn groups(t: Listing, blocks: &mut [u64; 320])
     ensures { λ r. ⌜ now (blocks .exit) ≡ sets (now (blocks .entry)) 64 (groupsOf (rowsOf t)) ⌝ }
 {
+    let n = sets::least(t.rows, rules::MOST_ROWS);
     let mut r: usize = 0;
-    while r < t.rows {
+    while r < n {
         let row = t.table[r];
         blocks[64 + r] = row.group;
         r += 1;
@@ -35,15 +33,25 @@ pub fn groups(t: Listing, blocks: &mut [u64])
 }
 
 // The blocks of the dichotomies.
-pub fn dichotomies(t: Listing, blocks: &mut [u64])
-    requires { ⌜ (t .dichotomies ≤ 64) × (320 ≤ length (now blocks)) ⌝ }
+fn dichotomies(t: Listing, blocks: &mut [u64; 320])
     ensures { λ r. ⌜ now (blocks .exit) ≡ sets (now (blocks .entry)) 192 (sides (dichotomiesOf t)) ⌝ }
 {
+    let n = sets::least(t.dichotomies, rules::MOST_DICHOTOMIES);
     let mut d: usize = 0;
-    while d < t.dichotomies {
+    while d < n {
         let asked = t.asked[d];
         blocks[192 + 2 * d] = asked.first;
         blocks[193 + 2 * d] = asked.second;
         d += 1;
     }
+}
+
+// The table of a listing's blocks, of any Listing value: where it counts more than there are places for, those that have places.
+// What is none of their places is left as it was.
+pub fn lay_blocks(t: Listing, blocks: &mut [u64; 320])
+    ensures { λ r. ⌜ now (blocks .exit) ≡ laidOut t (now (blocks .entry)) ⌝ }
+{
+    singles(sets::least(t.head.states, 64), blocks);
+    groups(t, blocks);
+    dichotomies(t, blocks)
 }
