@@ -2,7 +2,7 @@
 ghost use mathlib.Core.Path.{_≡_};
 ghost use Prim.Native.Nat.{_<_};
 ghost use mathlib.Core.Bool.{true};
-ghost use lib.ListN.{length, replicate};
+ghost use lib.ListN.{length};
 ghost use Rattle.rules.specs.Code.{coding};
 ghost use Rattle.fair.specs.Fair.{fair};
 ghost use Rattle.cards.specs.Cards.{Laid, cardsOf, numbered};
@@ -96,32 +96,13 @@ fn build_bits(
     }
 }
 
-// Room for the blocks and for the cards of a listing, and for the notes.
-fn no_blocks() -> [u64; 320]
-    ensures { λ r. ⌜ r ≡ replicate 320 0 ⌝ }
-{
-    [0u64; 320]
-}
-
-fn no_cards() -> [u32; 4400]
-    ensures { λ r. ⌜ r ≡ replicate 4400 0 ⌝ }
-{
-    [0u32; 4400]
-}
-
-fn no_notes() -> [u8; 4400]
-    ensures { λ r. ⌜ r ≡ replicate 4400 255 ⌝ }
-{
-    [255u8; 4400]
-}
-
 // The code of a fair listing, whose blocks are laid and whose cards are dealt.
 fn encode_fair(t: rules::Listing, blocks: &[u64], cards: &mut [u32]) -> rules::Encoding
     requires { ⌜ (fair t ≡ true) × Laid t (now blocks) × (now cards ≡ numbered 0 (cardsOf t)) ⌝ }
     ensures { λ r. ⌜ r ≡ encodedAs t (coding t) ⌝ }
 {
     let asked = cards.len();
-    let mut by = no_notes();
+    let mut by = [255u8; 4400];
     let mut bits = [0u64; 32];
     let width = t.head.width;
     let most = encoding::most_of(width);
@@ -147,8 +128,8 @@ fn encode_fair(t: rules::Listing, blocks: &[u64], cards: &mut [u32]) -> rules::E
 pub fn encode(t: rules::Listing) -> rules::Encoding
     ensures { λ r. ⌜ r ≡ encoded t ⌝ }
 {
-    let mut blocks = no_blocks();
-    let mut pile = no_cards();
+    let mut blocks = [0u64; 320];
+    let mut pile = [0u32; 4400];
     match cards::deal_out(t, &mut blocks, &mut pile) {
         cards::Hand::Unfair => encoding::uncoded_as(rules::Refusal::Limit),
         cards::Hand::Cards(asked) => encode_fair(t, &blocks, &mut pile[..asked]),
