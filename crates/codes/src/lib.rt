@@ -1,40 +1,12 @@
 // The code of a listing: bits until the width is reached or nothing is live.
 ghost use mathlib.Core.Path.{_≡_};
-ghost use Prim.Native.Nat.{_<_};
 ghost use mathlib.Core.Bool.{true};
-ghost use lib.ListN.{length};
 ghost use Rattle.rules.specs.Code.{coding};
 ghost use Rattle.fair.specs.Fair.{fair};
 ghost use Rattle.cards.specs.Cards.{Laid, cardsOf, numbered};
 ghost use Rattle.moves.specs.Moves.{drawn};
-ghost use Rattle.moves.proofs.Ready.{Ready};
 ghost use Rattle.encoding.specs.Encode.{encodedAs, encoded};
-ghost use Rattle.codes.specs.Build.{AddedBit, Begun, Outcome};
-
-// What a new bit is, and how many cards it leaves live.
-struct Added {
-    bit: u64,
-    left: usize,
-    passes: u64,
-    looks: u64,
-}
-
-// The next bit, number k, for the live cards, of which there is one at least: it is built, and the cards are sifted by it.
-fn add_bit(blocks: &[u64], cards: &mut [u32], by: &mut [u8], n: usize, k: u8) -> Added
-    requires { ⌜ Ready n (drawn (now blocks) (now cards)) × (0 < length (now cards)) ⌝ }
-    ensures { λ r. ⌜ AddedBit (now (blocks .entry)) n k (now (cards .entry)) (now (by .entry)) (r .bit) (r .left) (r .passes) (r .looks) (now (cards .exit)) (now (by .exit)) ⌝ }
-{
-    let start = moves::second_of(blocks, cards[0]);
-    let built = passes::build_bit(blocks, cards, n, start);
-    let b = choice::complement(n, built.bit);
-    let left = sift::sift(blocks, b, k, cards, by);
-    Added {
-        bit: b,
-        left,
-        passes: built.passes,
-        looks: built.looks,
-    }
-}
+ghost use Rattle.codes.specs.Build.{Begun, Outcome};
 
 // What a run of bits came to.
 struct Coded {
@@ -71,7 +43,7 @@ fn build_bits(
                 stalled: false,
             };
         }
-        let a = add_bit(blocks, &mut cards[..live], by, n, (width % 256) as u8);
+        let a = nextbit::add_bit(blocks, &mut cards[..live], by, n, (width % 256) as u8);
         if a.left == live {
             return Coded {
                 width,

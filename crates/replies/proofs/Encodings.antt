@@ -24,7 +24,7 @@ use Rattle.cards.proofs.FairListings.{sound-fair}
 use Rattle.encoding.specs.Encode.{most-asked, no-bit, padded, metFirst, encodedAs, encoded}
 use Rattle.encoding.proofs.Lists.{map-at, padded-length}
 use Rattle.encoding.proofs.FirstMet.{no-bit-unmet}
-use Rattle.codes.proofs.Counters.{FewIn, few-counted}
+use Rattle.nextbit.proofs.Counters.{FewIn, few-counted}
 use Rattle.report.specs.Report.{noBit, Holds}
 use Rattle.replies.specs.Saying.{Whole}
 
