@@ -24,6 +24,7 @@ use Rattle.cards.proofs.FairListings.{sound-fair}
 use Rattle.encoding.specs.Encode.{most-asked, no-bit, padded, metFirst, encodedAs, encoded}
 use Rattle.encoding.proofs.Lists.{map-at, padded-length}
 use Rattle.encoding.proofs.FirstMet.{no-bit-unmet}
+use Rattle.encoding.proofs.Answered.{encoded-fair}
 use Rattle.nextbit.proofs.Counters.{FewIn, few-counted}
 use Rattle.report.specs.Report.{noBit, Holds}
 use Rattle.replies.specs.Saying.{Whole}
@@ -76,8 +77,7 @@ module _ (t : Listing) (s : Sound t) where
     }
 
   fair-encoded : encoded t ≡ encodedAs t (coding t)
-  unfolding encoded
-  fair-encoded = rw (sound-fair t s) refl
+  fair-encoded = sym (encoded-fair t (sound-fair t s))
 
   -- ---- the two answers
 

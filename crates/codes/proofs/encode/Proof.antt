@@ -5,7 +5,7 @@ use native.Mathlib.Omega.{arith}
 use borrow.Author.Needs.{needs}
 use lib.ListN.{length, replicate, length-take, length-replicate}
 use Rattle.cards.proofs.Answers.{no-cards, so-fair, as-long, so-laid, so-dealt, so-long}
-use Rattle.codes.proofs.Encoded.{encoded-fair, encoded-unfair}
+use Rattle.encoding.proofs.Answered.{encoded-fair, encoded-unfair}
 use Rattle.codes.proofs.encode.Statement.{statement}
 use Rattle.codes.proofs.encode.Tie as tie
 
