@@ -20,8 +20,8 @@ use Rattle.sift.specs.Sift.{liveCards, sifted, noted}
 use Rattle.encoding.specs.Encode.{most-asked, no-bit}
 use Rattle.nextbit.specs.NextBit.{AddedBit, nextBy}
 use Rattle.nextbit.proofs.NextBit.{next-bit, new-bit-few}
-use Rattle.codes.specs.Build.{Begun, Done}
 use Rattle.nextbit.proofs.Live.{leftOf, left-all, left-count, left-good, left-next, live-count, live-drawn}
+use Rattle.codes.specs.Build.{Begun, Done}
 use Rattle.codes.proofs.Notes.{Shown, shown-none, shown-next, shown-all, noted-length}
 use Rattle.codes.proofs.Building.{joinedTo, build-last, build-done, build-more, build-stalled}
 

@@ -9,7 +9,7 @@ pub struct Added {
     pub looks: u64,
 }
 
-// The next bit, number k, for the live cards; where there is none, it starts as 01's bit of no requirement does.
+// The next bit, number k, for the live cards. It starts from the second block of the first of them, and from 0 where there is none.
 pub fn add_bit(blocks: &[u64], cards: &mut [u32], by: &mut [u8], n: usize, k: u8) -> Added
     ensures { λ r. ⌜ AddedBit (now (blocks .entry)) n k (now (cards .entry)) (now (by .entry)) (r .bit) (r .left) (r .passes) (r .looks) (now (cards .exit)) (now (by .exit)) ⌝ }
 {
