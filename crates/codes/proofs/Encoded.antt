@@ -13,7 +13,7 @@ use Rattle.rules.specs.declared.Requirement.{Requirement}
 use Rattle.rules.specs.declared.Listing.{Listing}
 use Rattle.rules.specs.declared.Encoding.{Encoding}
 use Rattle.rules.specs.declared.Verdict.{Verdict}
-use Rattle.rules.specs.declared.Refusal.the-variants.{Limit, TooWide, Stalled}
+use Rattle.rules.specs.declared.Refusal.the-variants.{TooWide, Stalled}
 use Rattle.rules.proofs.Built.{mostOf, most-few}
 use Rattle.moves.specs.Moves.{drawn}
 use Rattle.moves.proofs.Ready.{Ready}
@@ -23,7 +23,7 @@ use Rattle.cards.specs.Cards.{cardsOf, numbered}
 use Rattle.fair.proofs.Limits.{fair-grants}
 use Rattle.cards.proofs.Dealing.{numbered-length}
 use Rattle.cards.proofs.FairListings.{few-cards, few-requirements, good-requirements, as-many-cards, drawn-requirements, card-number}
-use Rattle.encoding.specs.Encode.{most-asked, no-bit, noEncoding, encodedAs, encoded}
+use Rattle.encoding.specs.Encode.{most-asked, no-bit, noEncoding, encodedAs}
 use Rattle.codes.specs.Build.{Begun, Done, Outcome}
 
 drop-replicate : (k w v : ℕ) → drop k (replicate w v) ≡ replicate (w - k) v
@@ -95,17 +95,6 @@ module _ (t : Listing) (f : fair t ≡ true) where
       } (encodedAs t (coding t))
       unfolding encodedAs
       wide-enough asked k h = rw (code-is false h, d .wide, d .shown, drop-replicate (length (d .code .bits)) most-bits 0, d .noted, d .took, d .looked, k, e) refl
-
--- ---- a listing is fair, or it is not
-
-module _ (t : Listing) where
-  pub encoded-fair : fair t ≡ true → encodedAs t (coding t) ≡ encoded t
-  unfolding encoded
-  encoded-fair e = sym (ap (λ (b : Bool). cond b (encodedAs t (coding t)) (noEncoding (Verdict.Refused Limit 0))) e)
-
-  pub encoded-unfair : fair t ≡ false → noEncoding (Verdict.Refused Limit 0) ≡ encoded t
-  unfolding encoded
-  encoded-unfair e = sym (ap (λ (b : Bool). cond b (encodedAs t (coding t)) (noEncoding (Verdict.Refused Limit 0))) e)
 
 -- ---- which of the two a run came to
 

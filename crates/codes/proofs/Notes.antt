@@ -15,7 +15,7 @@ use Rattle.moves.specs.Moves.{numberOf, requirementOf, drawn}
 use Rattle.sift.specs.Sift.{metCard, notedCard, noted}
 use Rattle.encoding.specs.Encode.{no-bit, metFirst, padded}
 use Rattle.encoding.proofs.Lists.{map-at, replicate-at, padded-length, padded-inside, padded-behind}
-use Rattle.codes.proofs.Live.{leftOf, card-met-left, card-left, card-met}
+use Rattle.nextbit.proofs.Live.{leftOf, card-met-left, card-left, card-met}
 use Rattle.encoding.proofs.FirstMet.{first-none, first-next}
 
 -- ---- one card

@@ -8,7 +8,7 @@ use native.Mathlib.Omega.{arith}
 use lib.ListN.{length, take, drop, set, length-map, length-take, length-append, length-set, length-drop, length-replicate, take-append-drop}
 use lib.Seq.{drop-drop, take-append-seam, take-suc-set, drop-set-lt, take-length, length-take-le}
 use Rattle.rules.specs.Limits.{most-bits}
-use Rattle.rules.specs.OneBit.{newBit, passes as passesOf}
+use Rattle.rules.specs.OneBit.{Bit, newBit}
 use Rattle.rules.specs.Code.{Coding, coded, uncoded, build, unmetBy}
 use Rattle.rules.specs.declared.Requirement.{Requirement}
 use Rattle.rules.specs.declared.Refusal.the-variants.{Stalled}
@@ -16,11 +16,12 @@ use Rattle.rules.proofs.Good.{start-lt}
 use Rattle.rules.proofs.Complement.{new-bit-lt}
 use Rattle.moves.specs.Moves.{requirementOf, drawn}
 use Rattle.moves.proofs.Ready.{Ready}
-use Rattle.choice.proofs.AllPasses.{Few, bit-few}
 use Rattle.sift.specs.Sift.{liveCards, sifted, noted}
 use Rattle.encoding.specs.Encode.{most-asked, no-bit}
-use Rattle.codes.specs.Build.{AddedBit, Begun, Done}
-use Rattle.codes.proofs.Live.{leftOf, left-all, left-count, left-good, left-next, live-count, live-drawn}
+use Rattle.nextbit.specs.NextBit.{AddedBit, nextBy}
+use Rattle.nextbit.proofs.NextBit.{next-bit, new-bit-few}
+use Rattle.nextbit.proofs.Live.{leftOf, left-all, left-count, left-good, left-next, live-count, live-drawn}
+use Rattle.codes.specs.Build.{Begun, Done}
 use Rattle.codes.proofs.Notes.{Shown, shown-none, shown-next, shown-all, noted-length}
 use Rattle.codes.proofs.Building.{joinedTo, build-last, build-done, build-more, build-stalled}
 
@@ -81,27 +82,41 @@ module _ (blocks : List ℕ) (n most : ℕ) (cs by₀ bits₀ : List ℕ) (begun
         let e : length (take live cards) ≡ live = ap length (run .front) ∙ sym (run .count) in
         omega (arith, length-take live cards, run .pile)
 
-    pub live-ready : Ready n (drawn blocks (take live cards))
+    live-ready : Ready n (drawn blocks (take live cards))
     unfolding left
     live-ready =
         let e : length (drawn blocks left) ≡ live = length-map left (requirementOf blocks) ∙ sym (run .count) in
         subst (λ (l : List ℕ). Ready n (drawn blocks l)) (sym (run .front))
         (record { some = begun .ready .some; fits = begun .ready .fits; few = omega (arith, live-few, begun .few); good = left-good blocks n (take width bits) cs (begun .ready .good) })
 
-    pub live-some : (live ≡ 0 → ⊥) → 0 < length (take live cards)
-    live-some h = let e : length (take live cards) ≡ live = ap length (run .front) ∙ sym (run .count) in omega arith
-
     module _ (b rest-of p l : ℕ) (prefix by₁ : List ℕ) (added : AddedBit blocks n width (take live cards) by b rest-of p l prefix by₁) where
+      -- the requirements of the live cards; the bit is 01's next one for them
+      rl : List Requirement
+      rl = drawn blocks (take live cards)
+
+      new : nextBy n rl ≡ newBit n rl
+      unfolding rl
+      new = next-bit n rl live-ready
+
+      is : b ≡ newBit n rl .bit
+      unfolding rl
+      is = added .is ∙ ap (λ (x : Bit). x .bit) new
+
+      took : p ≡ newBit n rl .passes
+      unfolding rl
+      took = added .took ∙ ap (λ (x : Bit). x .passes) new
+
+      looked : l ≡ newBit n rl .looks
+      unfolding rl
+      looked = added .looked ∙ ap (λ (x : Bit). x .looks) new
+
       fits : b < 2 ^ n
-      fits = subst (λ (x : ℕ). x < 2 ^ n) (sym (added .is)) (new-bit-lt n (drawn blocks (take live cards)) (start-lt n (drawn blocks (take live cards)) (live-ready .good)))
+      unfolding rl
+      fits = subst (λ (x : ℕ). x < 2 ^ n) (sym is) (new-bit-lt n rl (start-lt n rl (live-ready .good)))
 
       few-more : (p ≤ 2 ^ 21) × (l ≤ 2 ^ 44)
-      unfolding newBit
-      few-more =
-          let f : Few (suc (length (drawn blocks (take live cards)))) (4 * length (drawn blocks (take live cards))) (passesOf n (drawn blocks (take live cards))) = bit-few n (drawn blocks (take live cards)) live-ready in
-          let m : suc (length (drawn blocks (take live cards))) * (4 * length (drawn blocks (take live cards))) ≤ 2 ^ 21 * (4 * 2 ^ 20) =
-          mul-le-mul {n₂ = 2 ^ 21} {m₂ = 4 * 2 ^ 20} (omega (arith, live-ready .few)) (omega (arith, live-ready .few)) in
-          (omega (arith, added .took, f .passes-few, live-ready .few), omega (arith, added .looked, f .looks-few))
+      unfolding rl
+      few-more = let f = new-bit-few n rl live-ready in (omega (arith, took, f .0), omega (arith, looked, f .1))
 
       pub sum-fits : (passes + p < 2 ^ 64) × (looks + l < 2 ^ 64)
       sum-fits =
@@ -110,17 +125,14 @@ module _ (blocks : List ℕ) (n most : ℕ) (cs by₀ bits₀ : List ℕ) (begun
           let y : width * 2 ^ 44 ≤ 32 * 2 ^ 44 = mul-le-mul {n₂ = 32} {m₂ = 2 ^ 44} w (omega arith) in
           (omega (arith, run .few-passes, few-more .0), omega (arith, run .few-looks, few-more .1))
 
-      -- the requirements of the live cards, and how many of them the bit leaves
-      rl : List Requirement
-      rl = drawn blocks (take live cards)
-
+      -- how many of them there are, and how many the bit leaves
       rl-length : length rl ≡ live
       unfolding rl
       rl-length = length-map (take live cards) (requirementOf blocks) ∙ ap length (run .front) ∙ sym (run .count)
 
       leaves : length (unmetBy n (newBit n rl .bit) rl) ≡ rest-of
       unfolding rl
-      leaves = ap (λ (x : ℕ). length (unmetBy n x rl)) (sym (added .is)) ∙ sym (live-count blocks n b fits (take live cards) (live-ready .good)) ∙ sym (added .leaves)
+      leaves = ap (λ (x : ℕ). length (unmetBy n x rl)) (sym is) ∙ sym (live-count blocks n b fits (take live cards) (live-ready .good)) ∙ sym (added .leaves)
 
       -- the rule from here, one bit on
       here : width < most → joinedTo (take width bits) passes looks (build (suc (most - (width + 1))) n rl) ≡ build most n (drawn blocks cs)
@@ -166,8 +178,8 @@ module _ (blocks : List ℕ) (n most : ℕ) (cs by₀ bits₀ : List ℕ) (begun
           ap (drawn blocks) (sym leaves-cards) ∙ live-drawn blocks n b fits (take live cards) (live-ready .good) in
           let e : joinedTo (take width bits ++ (b ∷ [])) (passes + p) (looks + l) (build (most - (width + 1)) n (unmetBy n b rl))
           ≡ joinedTo (take width bits ++ (newBit n rl .bit ∷ [])) (passes + newBit n rl .passes) (looks + newBit n rl .looks) (build (most - (width + 1)) n (unmetBy n (newBit n rl .bit) rl)) =
-          ap (λ (x : ℕ). joinedTo (take width bits ++ (x ∷ [])) (passes + p) (looks + l) (build (most - (width + 1)) n (unmetBy n x rl))) (added .is)
-          ∙ ap₂ (λ (x y : ℕ). joinedTo (take width bits ++ (newBit n rl .bit ∷ [])) (passes + x) (looks + y) (build (most - (width + 1)) n (unmetBy n (newBit n rl .bit) rl))) (added .took) (added .looked) in
+          ap (λ (x : ℕ). joinedTo (take width bits ++ (x ∷ [])) (passes + p) (looks + l) (build (most - (width + 1)) n (unmetBy n x rl))) is
+          ∙ ap₂ (λ (x y : ℕ). joinedTo (take width bits ++ (newBit n rl .bit ∷ [])) (passes + x) (looks + y) (build (most - (width + 1)) n (unmetBy n (newBit n rl .bit) rl))) took looked in
           ap (λ (x : List Requirement). joinedTo (take width bits ++ (b ∷ [])) (passes + p) (looks + l) (build (most - (width + 1)) n x)) d ∙ e ∙ sym m ∙ here h
 
       -- one bit on

@@ -5,23 +5,12 @@ use mathlib.Core.List.{List, _++_, map}
 use Prim.Native.Nat.{ℕ, _≤_, _<_}
 use lib.ListN.{length, getD, drop, replicate}
 use Rattle.rules.specs.Limits.{most-bits}
-use Rattle.rules.specs.OneBit.{newBit}
 use Rattle.rules.specs.Code.{Code, coded, uncoded, build, unmetFrom}
 use Rattle.rules.specs.declared.Requirement.{Requirement}
 use Rattle.rules.specs.declared.Refusal.the-variants.{Stalled}
 use Rattle.moves.specs.Moves.{numberOf, drawn}
 use Rattle.moves.proofs.Ready.{Ready}
-use Rattle.sift.specs.Sift.{liveCards, sifted, noted}
 use Rattle.encoding.specs.Encode.{most-asked, no-bit, padded, metFirst}
-
--- the next bit for some live cards, as number k, and what it makes of the cards and of the notes
-pub record AddedBit (blocks : List ℕ) (n k : ℕ) (cards by : List ℕ) (bit left passes looks : ℕ) (cards′ by′ : List ℕ) : Type 0 where
-  pub is : bit ≡ newBit n (drawn blocks cards) .bit
-  pub took : passes ≡ newBit n (drawn blocks cards) .passes
-  pub looked : looks ≡ newBit n (drawn blocks cards) .looks
-  pub leaves : left ≡ length (liveCards blocks bit cards)
-  pub sifts : cards′ ≡ sifted blocks bit cards
-  pub notes : by′ ≡ noted blocks bit k cards by
 
 -- a run of bits begins: a card for each requirement, numbered from 0, nothing noted, and room for the bits
 pub record Begun (blocks : List ℕ) (n most : ℕ) (cards by bits : List ℕ) : Type 0 where

@@ -1,41 +1,13 @@
 // The code of a listing: bits until the width is reached or nothing is live.
 ghost use mathlib.Core.Path.{_≡_};
-ghost use Prim.Native.Nat.{_<_};
 ghost use mathlib.Core.Bool.{true};
-ghost use lib.ListN.{length, replicate};
 ghost use Rattle.rules.specs.Code.{coding};
 ghost use Rattle.fair.specs.Fair.{fair};
 ghost use Rattle.blocks.specs.BlockTable.{Laid};
 ghost use Rattle.cards.specs.Cards.{cardsOf, numbered};
 ghost use Rattle.moves.specs.Moves.{drawn};
-ghost use Rattle.moves.proofs.Ready.{Ready};
 ghost use Rattle.encoding.specs.Encode.{encodedAs, encoded};
-ghost use Rattle.codes.specs.Build.{AddedBit, Begun, Outcome};
-
-// What a new bit is, and how many cards it leaves live.
-struct Added {
-    bit: u64,
-    left: usize,
-    passes: u64,
-    looks: u64,
-}
-
-// The next bit, number k, for the live cards, of which there is one at least: it is built, and the cards are sifted by it.
-fn add_bit(blocks: &[u64], cards: &mut [u32], by: &mut [u8], n: usize, k: u8) -> Added
-    requires { ⌜ Ready n (drawn (now blocks) (now cards)) × (0 < length (now cards)) ⌝ }
-    ensures { λ r. ⌜ AddedBit (now (blocks .entry)) n k (now (cards .entry)) (now (by .entry)) (r .bit) (r .left) (r .passes) (r .looks) (now (cards .exit)) (now (by .exit)) ⌝ }
-{
-    let start = moves::second_of(blocks, cards[0]);
-    let built = passes::build_bit(blocks, cards, n, start);
-    let b = choice::complement(n, built.bit);
-    let left = sift::sift(blocks, b, k, cards, by);
-    Added {
-        bit: b,
-        left,
-        passes: built.passes,
-        looks: built.looks,
-    }
-}
+ghost use Rattle.codes.specs.Build.{Begun, Outcome};
 
 // What a run of bits came to.
 struct Coded {
@@ -72,7 +44,7 @@ fn build_bits(
                 stalled: false,
             };
         }
-        let a = add_bit(blocks, &mut cards[..live], by, n, (width % 256) as u8);
+        let a = nextbit::add_bit(blocks, &mut cards[..live], by, n, (width % 256) as u8);
         if a.left == live {
             return Coded {
                 width,
@@ -97,32 +69,13 @@ fn build_bits(
     }
 }
 
-// Room for the blocks and for the cards of a listing, and for the notes.
-fn no_blocks() -> [u64; 320]
-    ensures { λ r. ⌜ r ≡ replicate 320 0 ⌝ }
-{
-    [0u64; 320]
-}
-
-fn no_cards() -> [u32; 4400]
-    ensures { λ r. ⌜ r ≡ replicate 4400 0 ⌝ }
-{
-    [0u32; 4400]
-}
-
-fn no_notes() -> [u8; 4400]
-    ensures { λ r. ⌜ r ≡ replicate 4400 255 ⌝ }
-{
-    [255u8; 4400]
-}
-
 // The code of a fair listing, whose blocks are laid and whose cards are dealt.
 fn encode_fair(t: rules::Listing, blocks: &[u64], cards: &mut [u32]) -> rules::Encoding
     requires { ⌜ (fair t ≡ true) × Laid t (now blocks) × (now cards ≡ numbered 0 (cardsOf t)) ⌝ }
     ensures { λ r. ⌜ r ≡ encodedAs t (coding t) ⌝ }
 {
     let asked = cards.len();
-    let mut by = no_notes();
+    let mut by = [255u8; 4400];
     let mut bits = [0u64; 32];
     let width = t.head.width;
     let most = encoding::most_of(width);
@@ -148,8 +101,8 @@ fn encode_fair(t: rules::Listing, blocks: &[u64], cards: &mut [u32]) -> rules::E
 pub fn encode(t: rules::Listing) -> rules::Encoding
     ensures { λ r. ⌜ r ≡ encoded t ⌝ }
 {
-    let mut blocks = no_blocks();
-    let mut pile = no_cards();
+    let mut blocks = [0u64; 320];
+    let mut pile = [0u32; 4400];
     match cards::deal_out(t, &mut blocks, &mut pile) {
         cards::Hand::Unfair => encoding::uncoded_as(rules::Refusal::Limit),
         cards::Hand::Cards(asked) => encode_fair(t, &blocks, &mut pile[..asked]),

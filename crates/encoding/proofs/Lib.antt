@@ -1,3 +1,4 @@
 pub mod Lists
 pub mod FirstMet
 pub mod Judgement
+pub mod Answered

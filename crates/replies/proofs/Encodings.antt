@@ -1,6 +1,6 @@
 -- What the encoder answers for a sound listing: its code, held whole and within bounds, or 01's refusal.
 use mathlib.Core.Path.{_≡_, refl, sym, ap, _∙_, subst}
-use mathlib.Core.Bool.{false}
+use mathlib.Core.Bool.{true, false}
 use mathlib.Core.Logic.{_↔_}
 use mathlib.Core.List.{map}
 use Prim.Native.Nat.{ℕ, _-_, _≤_, _<_}
@@ -24,7 +24,8 @@ use Rattle.cards.proofs.FairListings.{sound-fair}
 use Rattle.encoding.specs.Encode.{most-asked, no-bit, padded, metFirst, encodedAs, encoded}
 use Rattle.encoding.proofs.Lists.{map-at, padded-length}
 use Rattle.encoding.proofs.FirstMet.{no-bit-unmet}
-use Rattle.codes.proofs.Counters.{FewIn, few-counted}
+use Rattle.encoding.proofs.Answered.{encoded-is}
+use Rattle.nextbit.proofs.Counters.{FewIn, few-counted}
 use Rattle.report.specs.Report.{noBit, Holds}
 use Rattle.replies.specs.Saying.{Whole}
 
@@ -76,8 +77,7 @@ module _ (t : Listing) (s : Sound t) where
     }
 
   fair-encoded : encoded t ≡ encodedAs t (coding t)
-  unfolding encoded
-  fair-encoded = rw (sound-fair t s) refl
+  fair-encoded = sym (encoded-is t true (sound-fair t s))
 
   -- ---- the two answers
 

@@ -1,7 +1,7 @@
 -- `codes::build_bits` meets its contract: the rest of the rule from here gives the whole code.
 use lib.ListN.{length-take, length-set}
-use Rattle.codes.specs.Build.{AddedBit}
-use Rattle.codes.proofs.Running.{Running, running-start, running-stalls, running-more, running-end, running-none, live-ready, live-some, sum-fits}
+use Rattle.nextbit.specs.NextBit.{AddedBit}
+use Rattle.codes.proofs.Running.{Running, running-start, running-stalls, running-more, running-end, running-none, sum-fits}
 use Prim.Native.Nat.{ℕ, _<_, _-_, _+_, _%_, _^_}
 use mathlib.Core.Path.{_≡_, refl, sym, ap, _∙_, subst}
 use native.Mathlib.Omega.{arith}
@@ -61,8 +61,7 @@ cast-add-bit : tie.Need-cast-add-bit Inv-loop μ-loop
 cast-add-bit c = record { fits = omega arith }
 
 add-bit-requires : tie.Need-add-bit-requires Inv-loop μ-loop
-add-bit-requires c κs = let l = c .before .before .before .before in let s = l .before .before .before .before .before in
-    (live-ready _ _ _ _ _ _ (s .pre) _ _ _ _ _ _ _ (l .loop .inv .0), live-some _ _ _ _ _ _ (s .pre) _ _ _ _ _ _ _ (l .loop .inv .0) (c .before .before .if1 .left))
+add-bit-requires c κs = search needs
 
 same-length-4 : tie.Need-same-length-4 Inv-loop μ-loop
 same-length-4 c = search needs

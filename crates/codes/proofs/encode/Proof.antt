@@ -1,19 +1,14 @@
 -- `codes::encode` meets its contract: a listing of which cards are dealt is fair, and any other is not.
 use Prim.Native.Nat.{ℕ, _≤_}
+use mathlib.Core.Bool.{true, false}
 use mathlib.Core.Path.{_≡_, sym, ap, _∙_}
 use native.Mathlib.Omega.{arith}
 use borrow.Author.Needs.{needs}
-use lib.ListN.{length, length-take, length-replicate}
+use lib.ListN.{length, replicate, length-take, length-replicate}
 use Rattle.cards.proofs.Answers.{no-cards, so-fair, as-long, so-laid, so-dealt, so-long}
-use Rattle.codes.proofs.Encoded.{encoded-fair, encoded-unfair}
+use Rattle.encoding.proofs.Answered.{encoded-is}
 use Rattle.codes.proofs.encode.Statement.{statement}
 use Rattle.codes.proofs.encode.Tie as tie
-
-no-blocks-requires : tie.Need-no-blocks-requires
-no-blocks-requires c κs = search needs
-
-no-cards-requires : tie.Need-no-cards-requires
-no-cards-requires c κs = search needs
 
 deal-out-requires : tie.Need-deal-out-requires
 deal-out-requires c κs = search needs
@@ -36,7 +31,6 @@ long-table : (c : tie.After-asked) → length (c .before .before .deal-out .last
 long-table c =
     let d = c .before .before in
     as-long _ _ _ _ _ _ (d .deal-out .ensures) _ (c .asked .given .1)
-    ∙ ap length (d .before .before .before .before .no-blocks .ensures)
     ∙ length-replicate {A = ℕ} 320 0
 
 slice-aggregate-encode-fair : tie.Need-slice-aggregate-encode-fair
@@ -54,8 +48,7 @@ encode-fair-requires : tie.Need-encode-fair-requires
 encode-fair-requires c κs =
     let a = c .before .before .before in
     let d = a .before .before in
-    let s = d .before .before .before .before in
-    let long : 320 ≤ length (s .no-blocks .result) = omega (arith, ap length (s .no-blocks .ensures), length-replicate {A = ℕ} 320 0) in (
+    let long : 320 ≤ length (replicate {A = ℕ} 320 0) = omega (arith, length-replicate {A = ℕ} 320 0) in (
       so-fair _ _ _ _ _ _ (d .deal-out .ensures) _ (a .asked .given .1),
       so-laid _ _ _ _ _ _ (d .deal-out .ensures) _ (a .asked .given .1) long,
       so-dealt _ _ _ _ _ _ (d .deal-out .ensures) _ (a .asked .given .1),
@@ -64,19 +57,17 @@ encode-fair-requires c κs =
 returns : tie.Need-returns
 returns c =
     let told = c .before in
-    c .uncoded-as .ensures ∙ encoded-unfair _ (no-cards _ _ _ _ _ _ (told .before .before .deal-out .ensures) (told .enum-told .given .1))
+    c .uncoded-as .ensures ∙ encoded-is _ false (no-cards _ _ _ _ _ _ (told .before .before .deal-out .ensures) (told .enum-told .given .1))
 
 returns-2 : tie.Need-returns-2
 returns-2 c =
     let a = c .before .before .before .before .before in
-    c .before .encode-fair .ensures ∙ encoded-fair _ (so-fair _ _ _ _ _ _ (a .before .before .deal-out .ensures) _ (a .asked .given .1))
+    c .before .encode-fair .ensures ∙ encoded-is _ true (so-fair _ _ _ _ _ _ (a .before .before .deal-out .ensures) _ (a .asked .given .1))
 
 pub encode-spec : {M : Type 1} → statement M
 encode-spec =
     tie.close
     (tie.spec
-    no-blocks-requires
-    no-cards-requires
     deal-out-requires
     enum-told
     uncoded-as-requires

@@ -1,5 +1,5 @@
 -- `codes::encode_fair` meets its contract: what the run of bits came to is 01's coding.
-use mathlib.Core.Path.{_≡_, sym, _∙_}
+use mathlib.Core.Path.{_≡_, refl, sym, _∙_}
 use mathlib.Core.Bool.{false}
 use borrow.Author.Needs.{needs}
 use lib.ListN.{replicate}
@@ -17,14 +17,11 @@ shows c = cards-show (c .args .t) (c .pre .0) (c .args .blocks .now) (c .args .c
 
 -- where a run that did not stall came to
 done : (c : tie.After-build-bits) → c .build-bits .result .stalled ≡ false → let m = c .before .before .before .before in
-    let s = m .before .before .before .before in
+    let s = m .before .before .before in
     let r = c .build-bits .result in
     Done (s .args .t .head .states) (m .most-of .result) (drawn (s .args .blocks .now) (s .args .cards .now)) (replicate most-bits 0)
     (r .width) (r .live) (r .passes) (r .looks) (c .build-bits .last .1 .1 .1 .0) (c .build-bits .last .1 .1 .0)
 done c e = it-is-done _ _ _ _ _ _ _ _ _ _ _ e (c .build-bits .ensures)
-
-no-notes-requires : tie.Need-no-notes-requires
-no-notes-requires c κs = search needs
 
 most-of-requires : tie.Need-most-of-requires
 most-of-requires c κs = search needs
@@ -38,8 +35,8 @@ slice-aggregate-build-bits-2 c = search needs
 build-bits-requires : tie.Need-build-bits-requires
 build-bits-requires c κs =
     let m = c .before .before .before in
-    let s = m .before .before .before .before in
-    begun (s .args .t) (s .pre .0) _ _ (s .pre .1) (s .pre .2) _ _ (m .most-of .ensures) (m .before .no-notes .ensures)
+    let s = m .before .before .before in
+    begun (s .args .t) (s .pre .0) _ _ (s .pre .1) (s .pre .2) _ _ (m .most-of .ensures) refl
 
 uncoded-as-requires : tie.Need-uncoded-as-requires
 uncoded-as-requires c κs = search needs
@@ -52,7 +49,7 @@ returns c =
     let i = c .before in
     let b = i .before .before .before .before .before in
     let m = b .before .before .before .before in
-    let s = m .before .before .before .before in
+    let s = m .before .before .before in
     c .uncoded-as .ensures
     ∙ stalls (s .args .t) (s .pre .0) _ (m .most-of .ensures) _ (shows s) (it-stalled _ _ _ _ _ _ _ _ _ _ _ (i .if1 .taken) (b .build-bits .ensures))
 
@@ -71,7 +68,7 @@ returns-2 c =
     let e = w .before .before in
     let b = e .before .before .before .before .before in
     let m = b .before .before .before .before in
-    let s = m .before .before .before .before in
+    let s = m .before .before .before in
     let short = sym (w .if2 .taken) ∙ w .before .falls-short .ensures in
     c .uncoded-as2 .ensures ∙ too-wide (s .args .t) (s .pre .0) _ (m .most-of .ensures) _ (shows s) (done b (e .if1 .left)) short
 
@@ -83,7 +80,7 @@ returns-3 c =
     let e = c .before .before in
     let b = e .before .before .before .before .before in
     let m = b .before .before .before .before in
-    let s = m .before .before .before .before in
+    let s = m .before .before .before in
     let many = as-many-asked (s .args .t) (s .pre .0) _ _ (s .pre .1) (s .pre .2) in
     let enough = sym (c .if2 .left) ∙ c .before .falls-short .ensures in
     wide-enough (s .args .t) (s .pre .0) _ (m .most-of .ensures) _ (shows s) (done b (e .if1 .left)) _ many enough
@@ -92,7 +89,6 @@ pub encode-fair-spec : {M : Type 1} → statement M
 encode-fair-spec =
     tie.close
     (tie.spec
-    no-notes-requires
     most-of-requires
     slice-aggregate-build-bits
     slice-aggregate-build-bits-2

@@ -3,16 +3,16 @@ use mathlib.Core.Path.{_≡_, subst}
 use mathlib.Core.Bool.{Bool, true, false}
 use mathlib.Core.List.{List, [], _∷_}
 use Prim.Native.Nat.{ℕ, zero, suc, _*_, _^_, _≤_}
-use native.Mathlib.Nat.{suc-mul, mul-le-mul}
+use native.Mathlib.Nat.{suc-mul}
 use native.Mathlib.Omega.{arith}
 use lib.Dec.{eqb}
 use lib.ListN.{length}
-use Rattle.rules.specs.OneBit.{Bit, newBit, passes as passesOf}
+use Rattle.rules.specs.OneBit.{Bit, newBit}
 use Rattle.rules.specs.Code.{Code, Coding, coded, uncoded, joined, build, unmetBy}
 use Rattle.rules.specs.declared.Requirement.{Requirement}
 use Rattle.rules.specs.declared.Refusal.the-variants.{Stalled}
 use Rattle.moves.proofs.Ready.{Ready, ready-left}
-use Rattle.choice.proofs.AllPasses.{Few, bit-few}
+use Rattle.nextbit.proofs.NextBit.{new-bit-few}
 
 pub record FewIn (k : ℕ) (c : Code) : Type 0 where
   pub passes : c .passes ≤ k * 2 ^ 21
@@ -21,13 +21,6 @@ pub record FewIn (k : ℕ) (c : Code) : Type 0 where
 abbrev Counted : ℕ → Coding → Type 0
 Counted k (coded c) = FewIn k c
 Counted k (uncoded r) = Unit {0}
-
-new-bit-few : (n : ℕ) (rs : List Requirement) → Ready n rs → (newBit n rs .passes ≤ 2 ^ 21) × (newBit n rs .looks ≤ 2 ^ 44)
-unfolding newBit
-new-bit-few n rs h =
-    let f : Few (suc (length rs)) (4 * length rs) (passesOf n rs) = bit-few n rs h in
-    let m : suc (length rs) * (4 * length rs) ≤ 2 ^ 21 * (4 * 2 ^ 20) = mul-le-mul {n₂ = 2 ^ 21} {m₂ = 4 * 2 ^ 20} (omega (arith, h .few)) (omega (arith, h .few)) in
-    (omega (arith, f .passes-few, h .few), omega (arith, f .looks-few))
 
 counted-more : (k : ℕ) (b : Bit) → b .passes ≤ 2 ^ 21 → b .looks ≤ 2 ^ 44 → (a : Coding) → Counted k a → Counted (suc k) (joined b a)
 counted-more k b p l (coded c) f = record {

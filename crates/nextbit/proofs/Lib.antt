@@ -1,0 +1,3 @@
+pub mod NextBit
+pub mod Live
+pub mod Counters
