@@ -10,7 +10,7 @@ fn has_stood(groups: &[u64], g: u64, r: usize) -> bool
     let mut i = r;
     while 0 < i {
         i -= 1;
-        if g == moves::block_at(groups, i) {
+        if g == deck::block_at(groups, i) {
             return true;
         }
     }

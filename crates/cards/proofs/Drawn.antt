@@ -14,7 +14,7 @@ use Rattle.rules.specs.declared.Listing.{Listing}
 use Rattle.rules.proofs.Runs.{Below}
 use Rattle.rules.proofs.Good.{states-below}
 use Rattle.rules.proofs.Asked.{outside-not, outside-member, newGroup, groups-step}
-use Rattle.moves.specs.Moves.{requirementOf, drawn}
+use Rattle.deck.specs.Deck.{requirementOf, drawn}
 use Rattle.asking.specs.Asking.{asksNew}
 use Rattle.blocks.specs.BlockTable.{groupPlace, firstPlace, secondPlace, Laid, groupsOf}
 use Rattle.cards.specs.Cards.{placed, withStates, pairCards, rowCards, groupCards, dichotomyCards, cardsOf}

@@ -14,7 +14,7 @@ use Rattle.rules.specs.declared.Listing.{Listing}
 use Rattle.rules.proofs.Sound.{Sound, rows-length, row-of}
 use Rattle.rules.proofs.Most.{most-requirements}
 use Rattle.rules.proofs.Good.{AllGood, requirements-good}
-use Rattle.moves.specs.Moves.{numberOf, requirementOf, drawn}
+use Rattle.deck.specs.Deck.{numberOf, requirementOf, drawn}
 use Rattle.fair.specs.Fair.{fair}
 use Rattle.blocks.specs.BlockTable.{Laid, laidOut}
 use Rattle.cards.specs.Cards.{cardsOf, numbered}

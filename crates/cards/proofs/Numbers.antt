@@ -10,7 +10,7 @@ use Rattle.rules.specs.Listing.{rowsOf, dichotomiesOf}
 use Rattle.rules.specs.Requirements.{asks, outside}
 use Rattle.rules.specs.declared.Requirement.{Requirement}
 use Rattle.rules.specs.declared.Listing.{Listing}
-use Rattle.moves.specs.Moves.{numberOf, drawn}
+use Rattle.deck.specs.Deck.{numberOf, drawn}
 use Rattle.asking.specs.Asking.{asksNew}
 use Rattle.blocks.specs.BlockTable.{groupPlace, groupsOf}
 use Rattle.cards.specs.Cards.{withStates, pairCards, rowCards, groupCards, dichotomyCards, cardsOf, numbered}

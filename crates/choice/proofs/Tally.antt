@@ -9,7 +9,7 @@ use lib.ListN.{length, length-map}
 use borrow.Author.Tests.{lt-ltb, le-ltb}
 use Rattle.rules.specs.declared.Requirement.{Requirement}
 use Rattle.shares.specs.Table.{level}
-use Rattle.moves.specs.Moves.{requirementOf, drawn}
+use Rattle.deck.specs.Deck.{requirementOf, drawn}
 use Rattle.choice.specs.Pass.{passed, afterPass, passesBy, tallied, builtBy}
 use Rattle.choice.specs.declared.Passed.{Passed}
 use Rattle.choice.specs.declared.Built.{Built}

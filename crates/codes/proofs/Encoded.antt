@@ -15,7 +15,7 @@ use Rattle.rules.specs.declared.Encoding.{Encoding}
 use Rattle.rules.specs.declared.Verdict.{Verdict}
 use Rattle.rules.specs.declared.Refusal.the-variants.{TooWide, Stalled}
 use Rattle.rules.proofs.Built.{mostOf, most-few}
-use Rattle.moves.specs.Moves.{drawn}
+use Rattle.deck.specs.Deck.{drawn}
 use Rattle.moves.proofs.Ready.{Ready}
 use Rattle.fair.specs.Fair.{fair}
 use Rattle.blocks.specs.BlockTable.{Laid}

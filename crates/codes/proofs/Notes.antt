@@ -11,7 +11,7 @@ use Rattle.rules.specs.Listing.{noRequirement}
 use Rattle.rules.specs.Requirements.{met, metByCode}
 use Rattle.rules.specs.declared.Requirement.{Requirement}
 use Rattle.rules.proofs.Good.{Good, AllGood}
-use Rattle.moves.specs.Moves.{numberOf, requirementOf, drawn}
+use Rattle.deck.specs.Deck.{numberOf, requirementOf, drawn}
 use Rattle.sift.specs.Sift.{metCard, notedCard, noted}
 use Rattle.encoding.specs.Encode.{no-bit, metFirst, padded}
 use Rattle.encoding.proofs.Lists.{map-at, replicate-at, padded-length, padded-inside, padded-behind}

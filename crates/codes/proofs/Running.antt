@@ -14,7 +14,7 @@ use Rattle.rules.specs.declared.Requirement.{Requirement}
 use Rattle.rules.specs.declared.Refusal.the-variants.{Stalled}
 use Rattle.rules.proofs.Good.{start-lt}
 use Rattle.rules.proofs.Complement.{new-bit-lt}
-use Rattle.moves.specs.Moves.{requirementOf, drawn}
+use Rattle.deck.specs.Deck.{requirementOf, drawn}
 use Rattle.moves.proofs.Ready.{Ready}
 use Rattle.sift.specs.Sift.{liveCards, sifted, noted}
 use Rattle.encoding.specs.Encode.{most-asked, no-bit}

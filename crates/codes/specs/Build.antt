@@ -8,7 +8,7 @@ use Rattle.rules.specs.Limits.{most-bits}
 use Rattle.rules.specs.Code.{Code, coded, uncoded, build, unmetFrom}
 use Rattle.rules.specs.declared.Requirement.{Requirement}
 use Rattle.rules.specs.declared.Refusal.the-variants.{Stalled}
-use Rattle.moves.specs.Moves.{numberOf, drawn}
+use Rattle.deck.specs.Deck.{numberOf, drawn}
 use Rattle.moves.proofs.Ready.{Ready}
 use Rattle.encoding.specs.Encode.{most-asked, no-bit, padded, metFirst}
 

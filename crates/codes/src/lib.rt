@@ -5,7 +5,7 @@ ghost use Rattle.rules.specs.Code.{coding};
 ghost use Rattle.fair.specs.Fair.{fair};
 ghost use Rattle.blocks.specs.BlockTable.{Laid};
 ghost use Rattle.cards.specs.Cards.{cardsOf, numbered};
-ghost use Rattle.moves.specs.Moves.{drawn};
+ghost use Rattle.deck.specs.Deck.{drawn};
 ghost use Rattle.encoding.specs.Encode.{encodedAs, encoded};
 ghost use Rattle.codes.specs.Build.{Begun, Outcome};
 

@@ -12,7 +12,8 @@ use borrow.Author.Tests.{ne-eqb, eqb-true}
 use Rattle.sets.specs.Sets.{has, flip}
 use Rattle.sets.specs.Blocks.{nearMask}
 use Rattle.shares.specs.Table.{shared, unshared, lookMask, stepped}
-use Rattle.moves.specs.Moves.{firstOf, secondOf, requirementOf, drawn, moved, looked}
+use Rattle.deck.specs.Deck.{firstOf, secondOf, requirementOf, drawn}
+use Rattle.moves.specs.Moves.{moved, looked}
 use Rattle.moves.proofs.Lists.{none-has}
 use Rattle.index.specs.Index.{membersOf, membersIn, nearIn, visited, visitedAll, nearCount, marked, allBut, Marks}
 use Rattle.index.proofs.Marked.{behind}

@@ -9,7 +9,8 @@ use lib.Seq.{take-all, getD-take, getD-drop, drop-drop}
 use Rattle.sets.specs.Sets.{has}
 use Rattle.rules.specs.declared.Requirement.{Requirement}
 use Rattle.shares.specs.Table.{stepped}
-use Rattle.moves.specs.Moves.{requirementOf, drawn, moved, looked}
+use Rattle.deck.specs.Deck.{requirementOf, drawn}
+use Rattle.moves.specs.Moves.{moved, looked}
 use Rattle.index.specs.Index.{membersOf, membersIn, Marks, Index}
 use Rattle.index.proofs.Indexed.{map-at}
 

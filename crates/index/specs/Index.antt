@@ -10,7 +10,7 @@ use Rattle.sets.specs.Sets.{has, flip, everyone}
 use Rattle.sets.specs.Blocks.{nearMask}
 use Rattle.rules.specs.declared.Requirement.{Requirement}
 use Rattle.shares.specs.Table.{weighed, shared, unshared}
-use Rattle.moves.specs.Moves.{firstOf, secondOf}
+use Rattle.deck.specs.Deck.{firstOf, secondOf}
 
 -- the members of the requirement of a card
 abbrev pub membersOf : List ℕ → ℕ → ℕ

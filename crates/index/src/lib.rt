@@ -1,10 +1,10 @@
 // The index of a list of cards has, for each state and each run of 64 cards, a word that says which of the run have the state: what is read of one card
 // to make it, and the visits of those cards of a run that a word marks.
-use moves::first_of;
-use moves::second_of;
+use deck::first_of;
+use deck::second_of;
 ghost use mathlib.Core.Path.{_≡_};
 ghost use mathlib.Core.Bool.{cond};
-ghost use Rattle.moves.specs.Moves.{firstOf, secondOf, drawn};
+ghost use Rattle.deck.specs.Deck.{firstOf, secondOf, drawn};
 ghost use Rattle.index.specs.Index.{membersOf, nearIn, visited, visitedAll, nearCount, marked};
 
 // The members of the requirement of a card.

@@ -13,7 +13,8 @@ use Rattle.sets.specs.Sets.{has}
 use Rattle.sets.proofs.Members.{has-lt}
 use Rattle.rules.specs.declared.Requirement.{Requirement}
 use Rattle.shares.specs.Table.{shared, lookMask, stepped}
-use Rattle.moves.specs.Moves.{firstOf, secondOf, requirementOf, drawn, filled, moved, looked}
+use Rattle.deck.specs.Deck.{firstOf, secondOf, requirementOf, drawn}
+use Rattle.moves.specs.Moves.{filled, moved, looked}
 
 pub looked-le : (rs : List Requirement) (b a s : ℕ) → looked rs b a s ≤ length rs
 unfolding looked

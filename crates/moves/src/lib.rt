@@ -3,7 +3,8 @@ ghost use mathlib.Core.Path.{_≡_};
 ghost use mathlib.Core.Bool.{cond};
 ghost use lib.ListN.{getD};
 ghost use Rattle.shares.specs.Table.{shared, lookMask, stepped};
-ghost use Rattle.moves.specs.Moves.{firstOf, secondOf, drawn, filled, moved, looked};
+ghost use Rattle.deck.specs.Deck.{firstOf, secondOf, drawn};
+ghost use Rattle.moves.specs.Moves.{filled, moved, looked};
 
 // Whether the move of s from the bit b to the bit a looks at the requirement.
 fn looks_at(f: u64, g: u64, b: u64, a: u64, s: usize) -> bool
@@ -18,48 +19,12 @@ fn looks_at(f: u64, g: u64, b: u64, a: u64, s: usize) -> bool
     shares::near_at(f, g, a)
 }
 
-// The move, for one requirement: the table changes only where it looks; the answer is 1 for a look.
-fn look_at(f: u64, g: u64, b: u64, a: u64, s: usize, t: &mut [u32]) -> usize
-    ensures { λ r. ⌜ (r ≡ cond (lookMask f g b a s) 1 0) × (now (t .exit) ≡ stepped f g b a s (now (t .entry))) ⌝ }
-{
-    if looks_at(f, g, b, a, s) {
-        shares::reshare(f, g, b, a, t);
-        return 1;
-    }
-    0
-}
-
-// Block k of the table, none where it has not so many.
-pub fn block_at(blocks: &[u64], k: usize) -> u64
-    ensures { λ r. ⌜ r ≡ getD (now (blocks .entry)) k 0 ⌝ }
-{
-    if k < blocks.len() {
-        return blocks[k];
-    }
-    0
-}
-
-// The blocks of a card.
-pub fn first_of(blocks: &[u64], card: u32) -> u64
-    ensures { λ r. ⌜ r ≡ firstOf (now (blocks .entry)) card ⌝ }
-{
-    let k = (card / 16384 % 512) as usize;
-    block_at(blocks, k)
-}
-
-pub fn second_of(blocks: &[u64], card: u32) -> u64
-    ensures { λ r. ⌜ r ≡ secondOf (now (blocks .entry)) card ⌝ }
-{
-    let k = (card / 8388608 % 512) as usize;
-    block_at(blocks, k)
-}
-
 // What the requirement of a card adds at the bit b.
 fn share_card(blocks: &[u64], card: u32, b: u64, t: &mut [u32])
     ensures { λ r. ⌜ now (t .exit) ≡ shared (firstOf (now (blocks .entry)) card) (secondOf (now (blocks .entry)) card) b (now (t .entry)) ⌝ }
 {
-    let f = first_of(blocks, card);
-    let g = second_of(blocks, card);
+    let f = deck::first_of(blocks, card);
+    let g = deck::second_of(blocks, card);
     shares::share(f, g, b, t)
 }
 
@@ -74,13 +39,17 @@ pub fn fill(blocks: &[u64], cards: &[u32], b: u64, t: &mut [u32])
     }
 }
 
-// The move, for the requirement of a card.
+// The move, for the requirement of a card: the table changes only where it looks; the answer is 1 for a look.
 fn look_card(blocks: &[u64], card: u32, b: u64, a: u64, s: usize, t: &mut [u32]) -> usize
     ensures { λ r. ⌜ (r ≡ cond (lookMask (firstOf (now (blocks .entry)) card) (secondOf (now (blocks .entry)) card) b a s) 1 0) × (now (t .exit) ≡ stepped (firstOf (now (blocks .entry)) card) (secondOf (now (blocks .entry)) card) b a s (now (t .entry))) ⌝ }
 {
-    let f = first_of(blocks, card);
-    let g = second_of(blocks, card);
-    look_at(f, g, b, a, s, t)
+    let f = deck::first_of(blocks, card);
+    let g = deck::second_of(blocks, card);
+    if looks_at(f, g, b, a, s) {
+        shares::reshare(f, g, b, a, t);
+        return 1;
+    }
+    0
 }
 
 // The move, for every requirement of a list of cards; the answer is how many it looks at.

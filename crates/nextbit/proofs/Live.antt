@@ -10,7 +10,7 @@ use Rattle.rules.specs.declared.Requirement.{Requirement}
 use Rattle.rules.proofs.Masks.{met-mask}
 use Rattle.rules.proofs.Unmet.{unmetIn, unmet-length, left-met, left-unmet}
 use Rattle.rules.proofs.Good.{Good, AllGood, good-left}
-use Rattle.moves.specs.Moves.{requirementOf, drawn}
+use Rattle.deck.specs.Deck.{requirementOf, drawn}
 use Rattle.sift.specs.Sift.{metCard, liveCards}
 use Rattle.sift.proofs.Sifting.{live-met, live-unmet}
 

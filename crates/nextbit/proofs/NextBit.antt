@@ -7,7 +7,7 @@ use native.Mathlib.Omega.{arith}
 use lib.ListN.{length, getD}
 use Rattle.rules.specs.OneBit.{start, passes, newBit}
 use Rattle.rules.specs.declared.Requirement.{Requirement}
-use Rattle.moves.specs.Moves.{secondOf, drawn}
+use Rattle.deck.specs.Deck.{secondOf, drawn}
 use Rattle.moves.proofs.Ready.{Ready}
 use Rattle.choice.specs.Pass.{builtBy}
 use Rattle.choice.proofs.AllPasses.{Same, Few, built-same, bit-few}

@@ -5,7 +5,7 @@ use Prim.Native.Nat.{ℕ, min}
 use lib.ListN.{length}
 use Rattle.rules.specs.OneBit.{Bit, start, complemented}
 use Rattle.rules.specs.declared.Requirement.{Requirement}
-use Rattle.moves.specs.Moves.{drawn}
+use Rattle.deck.specs.Deck.{drawn}
 use Rattle.choice.specs.Pass.{builtBy}
 use Rattle.choice.specs.declared.Built.{Built}
 use Rattle.sift.specs.Sift.{liveCards, sifted, noted}

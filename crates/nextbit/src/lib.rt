@@ -15,7 +15,7 @@ pub fn add_bit(blocks: &[u64], cards: &mut [u32], by: &mut [u8], n: usize, k: u8
 {
     let mut start: u64 = 0;
     if 0 < cards.len() {
-        start = moves::second_of(blocks, cards[0]);
+        start = deck::second_of(blocks, cards[0]);
     }
     let built = passes::build_bit(blocks, cards, n, start);
     let b = choice::complement(n, built.bit);

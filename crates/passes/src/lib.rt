@@ -10,7 +10,7 @@ use choice::reach;
 ghost use mathlib.Core.Path.{_≡_};
 ghost use Prim.Native.Nat.{_+_, _≤_, _%_};
 ghost use lib.ListN.{length, replicate};
-ghost use Rattle.moves.specs.Moves.{drawn};
+ghost use Rattle.deck.specs.Deck.{drawn};
 ghost use Rattle.index.specs.Index.{membersIn, Index};
 ghost use Rattle.choice.specs.Pass.{going, goOn, passed, passesBy, tallied, builtBy};
 

@@ -5,7 +5,8 @@ ghost use mathlib.Core.Path.{_≡_};
 ghost use Prim.Native.Nat.{_+_, _<_, _≤_, _%_};
 ghost use lib.ListN.{length, getD, set, replicate};
 ghost use Rattle.sets.specs.Sets.{flip};
-ghost use Rattle.moves.specs.Moves.{drawn, moved, looked};
+ghost use Rattle.deck.specs.Deck.{drawn};
+ghost use Rattle.moves.specs.Moves.{moved, looked};
 ghost use Rattle.index.specs.Index.{membersIn, Turned, Index};
 
 // Digit k of word p turned over, if there is such a word.

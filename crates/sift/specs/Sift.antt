@@ -4,7 +4,7 @@ use mathlib.Core.List.{List, [], _∷_, _++_}
 use Prim.Native.Nat.{ℕ, _+_}
 use lib.ListN.{length, getD, drop, set}
 use Rattle.sets.specs.Blocks.{metMask}
-use Rattle.moves.specs.Moves.{numberOf, firstOf, secondOf}
+use Rattle.deck.specs.Deck.{numberOf, firstOf, secondOf}
 
 -- the card's requirement is met by the bit b
 abbrev pub metCard : List ℕ → ℕ → ℕ → Bool

@@ -2,15 +2,15 @@
 ghost use mathlib.Core.Path.{_≡_};
 ghost use Prim.Native.Nat.{_<_, _≤_};
 ghost use lib.ListN.{length, getD, set};
-ghost use Rattle.moves.specs.Moves.{numberOf};
+ghost use Rattle.deck.specs.Deck.{numberOf};
 ghost use Rattle.sift.specs.Sift.{metCard, liveCards, sifted, noted, notedCard, liveBehind, movedCard};
 
 // Whether the bit b meets the requirement of a card.
 fn met_card(blocks: &[u64], card: u32, b: u64) -> bool
     ensures { λ r. ⌜ r ≡ metCard (now (blocks .entry)) b card ⌝ }
 {
-    let f = moves::first_of(blocks, card);
-    let g = moves::second_of(blocks, card);
+    let f = deck::first_of(blocks, card);
+    let g = deck::second_of(blocks, card);
     shares::met_at(f, g, b)
 }
 

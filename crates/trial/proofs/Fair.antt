@@ -20,7 +20,8 @@ use Rattle.rules.specs.Trial.{within, paired, allSound}
 use Rattle.rules.specs.declared.Requirement.{Requirement}
 use Rattle.rules.proofs.Good.{AllGood, apart-and}
 use Rattle.shares.specs.Table.{level}
-use Rattle.moves.specs.Moves.{requirementOf, moved, looked}
+use Rattle.deck.specs.Deck.{requirementOf}
+use Rattle.moves.specs.Moves.{moved, looked}
 use Rattle.moves.proofs.Lists.{looked-le}
 use Rattle.moves.proofs.Ready.{Ready}
 use Rattle.moves.proofs.Shows.{Shows, shows-filled, shows-moved}

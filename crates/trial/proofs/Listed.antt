@@ -8,7 +8,7 @@ use lib.Seq.{sets, length-sets}
 use Rattle.rules.specs.Requirements.{asks}
 use Rattle.rules.specs.Trial.{paired}
 use Rattle.rules.specs.declared.Requirement.{Requirement}
-use Rattle.moves.specs.Moves.{drawn}
+use Rattle.deck.specs.Deck.{drawn}
 use Rattle.trial.specs.Record.{cardOf, cardsFrom, deck, blocksOf}
 use Rattle.trial.proofs.Stored.{sets-before, sets-there}
 use Rattle.trial.proofs.Deck.{take-deck}

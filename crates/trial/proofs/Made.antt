@@ -12,7 +12,8 @@ use Rattle.sets.specs.Sets.{flip}
 use Rattle.rules.specs.Trial.{startable}
 use Rattle.rules.specs.declared.StateNumber.{StateNumber}
 use Rattle.shares.specs.Table.{level}
-use Rattle.moves.specs.Moves.{drawn, filled, moved, looked}
+use Rattle.deck.specs.Deck.{drawn}
+use Rattle.moves.specs.Moves.{filled, moved, looked}
 use Rattle.trial.specs.declared.Trial.{Trial}
 use Rattle.trial.specs.declared.Answer.{Answer}
 use Rattle.trial.specs.Record.{taken, turnedDown, deck, blocksOf, none, shown, startOf, askedOf, nextOf, moveOf, gainOf}

@@ -13,7 +13,8 @@ use Rattle.rules.specs.declared.StateNumber.{StateNumber}
 use Rattle.rules.specs.declared.Verdict.{Verdict}
 use Rattle.rules.specs.declared.Refusal.the-variants.{BadCall}
 use Rattle.shares.specs.Table.{level}
-use Rattle.moves.specs.Moves.{drawn, filled, moved, looked}
+use Rattle.deck.specs.Deck.{drawn}
+use Rattle.moves.specs.Moves.{filled, moved, looked}
 use Rattle.calls.specs.Movable.{movable}
 use Rattle.trial.specs.declared.Trial.{Trial}
 use Rattle.trial.specs.declared.Answer.{Answer}

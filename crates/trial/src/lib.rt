@@ -5,7 +5,8 @@ ghost use lib.ListN.{replicate};
 ghost use lib.Seq.{sets};
 ghost use Rattle.rules.specs.Cases.{verdictNumbers};
 ghost use Rattle.shares.specs.Table.{level};
-ghost use Rattle.moves.specs.Moves.{drawn, filled};
+ghost use Rattle.deck.specs.Deck.{drawn};
+ghost use Rattle.moves.specs.Moves.{filled};
 ghost use Rattle.trial.specs.Record.{cardOf, deck, blocksOf, taken, turnedDown, none, shown, startOf, nextOf, moveOf, gainOf};
 
 // A trial record: n states, how many requirements it lists, the bit, the states that have moved, the looks so far. Of the blocks the first

@@ -5,7 +5,7 @@ use borrow.Author.Needs.{needs}
 use lib.ListN.{replicate}
 use Rattle.rules.specs.Limits.{most-bits}
 use Rattle.rules.specs.Requirements.{requirements}
-use Rattle.moves.specs.Moves.{drawn}
+use Rattle.deck.specs.Deck.{drawn}
 use Rattle.codes.specs.Build.{Done}
 use Rattle.codes.proofs.Encoded.{cards-show, as-many-asked, begun, stalls, too-wide, wide-enough, it-stalled, it-is-done}
 use Rattle.codes.proofs.encode_fair.Statement.{statement}

@@ -1,5 +1,6 @@
 -- `moves::fill` meets its contract: what is left of the list is still to be added.
-use Rattle.moves.specs.Moves.{drawn, filled}
+use Rattle.deck.specs.Deck.{drawn}
+use Rattle.moves.specs.Moves.{filled}
 use Rattle.moves.proofs.Lists.{filled-more, filled-end}
 use Prim.Native.Nat.{_≤_, _-_, _+_}
 use mathlib.Core.Path.{_≡_, refl, sym, ap, _∙_}

@@ -1,5 +1,6 @@
 -- `moves::move_all` meets its contract: what is left of the list is still to be moved, and its looks are still to be counted.
-use Rattle.moves.specs.Moves.{drawn, moved, looked}
+use Rattle.deck.specs.Deck.{drawn}
+use Rattle.moves.specs.Moves.{moved, looked}
 use Rattle.moves.proofs.Lists.{moved-more, moved-end, looked-more, looked-end, looked-most}
 use Prim.Native.Nat.{_≤_, _-_, _+_}
 use mathlib.Core.Path.{_≡_, refl, sym, ap, _∙_}

@@ -4,7 +4,7 @@ use Prim.Native.Nat.{min}
 use mathlib.Core.Logic.{⊎-elim}
 use borrow.Author.Needs.{needs}
 use Rattle.rules.specs.OneBit.{start, complemented}
-use Rattle.moves.specs.Moves.{drawn}
+use Rattle.deck.specs.Deck.{drawn}
 use Rattle.choice.specs.Pass.{builtBy}
 use Rattle.choice.specs.declared.Built.{Built}
 use Rattle.nextbit.specs.NextBit.{nextBy}

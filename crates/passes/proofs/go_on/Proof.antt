@@ -1,5 +1,5 @@
 -- `passes::go_on` meets its contract.
-use Rattle.moves.specs.Moves.{drawn}
+use Rattle.deck.specs.Deck.{drawn}
 use Rattle.choice.proofs.OneMove.{chosen-lt, go-on}
 use borrow.Author.Needs.{needs}
 use Rattle.passes.proofs.go_on.Statement.{statement}

@@ -2,7 +2,7 @@
 use mathlib.Core.Path.{ap₂}
 use Rattle.sets.specs.Sets.{everyone}
 use Rattle.shares.specs.Table.{level}
-use Rattle.moves.specs.Moves.{drawn}
+use Rattle.deck.specs.Deck.{drawn}
 use Rattle.choice.specs.Pass.{Going, going, goMoves, passed}
 use Rattle.choice.proofs.OneMove.{moves-start, moves-more, moves-end}
 use Prim.Native.Nat.{ℕ, _≤_, _-_, _+_, min}

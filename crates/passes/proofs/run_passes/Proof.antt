@@ -1,7 +1,7 @@
 -- `passes::run_passes` meets its contract: what is counted, with what the passes from here on add, is what all passes add.
 use mathlib.Core.Path.{ap₂}
 use Rattle.choice.proofs.Tally.{same-built}
-use Rattle.moves.specs.Moves.{drawn}
+use Rattle.deck.specs.Deck.{drawn}
 use Rattle.choice.specs.Pass.{passesBy, tallied}
 use Rattle.choice.proofs.Tally.{tally-more, tally-last, tally-none}
 use Prim.Native.Nat.{ℕ, _<_, _-_, _+_, _^_}

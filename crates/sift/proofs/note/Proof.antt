@@ -1,6 +1,6 @@
 -- `sift::note` meets its contract.
 use lib.Seq.{set-out}
-use Rattle.moves.specs.Moves.{numberOf}
+use Rattle.deck.specs.Deck.{numberOf}
 use mathlib.Core.Path.{sym}
 use borrow.Author.Needs.{needs}
 use Rattle.sift.proofs.note.Statement.{statement}

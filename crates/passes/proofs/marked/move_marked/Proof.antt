@@ -1,5 +1,6 @@
 -- `passes::marked::move_marked` meets its contract: what is left of the list is still to be moved, and its looks are still to be counted.
-use Rattle.moves.specs.Moves.{drawn, moved, looked}
+use Rattle.deck.specs.Deck.{drawn}
+use Rattle.moves.specs.Moves.{moved, looked}
 use Rattle.moves.proofs.Lists.{looked-most}
 use Rattle.index.proofs.Without.{but-is}
 use Rattle.index.proofs.Members.{run-visited}

@@ -1,9 +1,9 @@
--- `moves::block_at` meets its contract.
+-- `deck::block_at` meets its contract.
 use lib.ListN.{List·getD-eq-default}
 use mathlib.Core.Path.{sym}
 use borrow.Author.Needs.{needs}
-use Rattle.moves.proofs.block_at.Statement.{statement}
-use Rattle.moves.proofs.block_at.Tie as tie
+use Rattle.deck.proofs.block_at.Statement.{statement}
+use Rattle.deck.proofs.block_at.Tie as tie
 
 mul-result : tie.Need-mul-result
 mul-result c = search needs
