@@ -1,11 +1,11 @@
--- `tsurmokan::answer` meets its contract.
-use Rattle.tsurmokan.proofs.Numbers.{back, said-within, number-given}
+-- `numbers::answer` meets its contract.
+use Rattle.numbers.proofs.Numbers.{back, said-within, number-given}
 use Rattle.replies.specs.Saying.{replyTo}
 use Rattle.replies.proofs.Small.{small}
 use mathlib.Core.Path.{_∙_}
 use borrow.Author.Needs.{needs}
-use Rattle.tsurmokan.proofs.answer.Statement.{statement}
-use Rattle.tsurmokan.proofs.answer.Tie as tie
+use Rattle.numbers.proofs.answer.Statement.{statement}
+use Rattle.numbers.proofs.answer.Tie as tie
 
 say-requires : tie.Need-say-requires
 say-requires c κs = search needs

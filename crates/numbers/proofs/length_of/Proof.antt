@@ -1,10 +1,10 @@
--- `tsurmokan::length_of` meets its contract.
+-- `numbers::length_of` meets its contract.
 use native.Mathlib.Omega.{arith}
 use mir.Syntax.{w64}
 use mir.Facts.{toZ-pos}
 use borrow.Author.Needs.{needs}
-use Rattle.tsurmokan.proofs.length_of.Statement.{statement}
-use Rattle.tsurmokan.proofs.length_of.Tie as tie
+use Rattle.numbers.proofs.length_of.Statement.{statement}
+use Rattle.numbers.proofs.length_of.Tie as tie
 
 cast-result : tie.Need-cast-result
 cast-result c = search needs

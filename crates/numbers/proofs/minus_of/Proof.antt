@@ -1,13 +1,13 @@
--- `tsurmokan::minus_of` meets its contract.
+-- `numbers::minus_of` meets its contract.
 use mathlib.Core.Path.{ap, _∙_}
 use Prim.Native.Nat.{ℕ, _+_, _*_}
 use native.Mathlib.Omega.{arith}
 use lib.IntN.{pos, negℤ}
 use borrow.Author.Needs.{needs}
 use Rattle.rules.specs.Refusals.{minus}
-use Rattle.tsurmokan.proofs.Minus.{minus-fits, minus-is}
-use Rattle.tsurmokan.proofs.minus_of.Statement.{statement}
-use Rattle.tsurmokan.proofs.minus_of.Tie as tie
+use Rattle.numbers.proofs.Minus.{minus-fits, minus-is}
+use Rattle.numbers.proofs.minus_of.Statement.{statement}
+use Rattle.numbers.proofs.minus_of.Tie as tie
 
 number-of-requires : tie.Need-number-of-requires
 number-of-requires c κs = search needs

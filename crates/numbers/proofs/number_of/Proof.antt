@@ -1,12 +1,12 @@
--- `tsurmokan::number_of` meets its contract.
-use Rattle.tsurmokan.proofs.Numbers.{back}
+-- `numbers::number_of` meets its contract.
+use Rattle.numbers.proofs.Numbers.{back}
 use mathlib.Core.Path.{subst}
-use Rattle.tsurmokan.specs.Signed.{signed, Within}
+use Rattle.numbers.specs.Signed.{signed, Within}
 use mathlib.Core.Path.{sym, ap, _∙_}
 use native.Mathlib.Omega.{arith}
 use borrow.Author.Needs.{needs}
-use Rattle.tsurmokan.proofs.number_of.Statement.{statement}
-use Rattle.tsurmokan.proofs.number_of.Tie as tie
+use Rattle.numbers.proofs.number_of.Statement.{statement}
+use Rattle.numbers.proofs.number_of.Tie as tie
 
 enum-known-said : tie.Need-enum-known-said
 enum-known-said c = search needs

@@ -17,7 +17,7 @@ use Rattle.rules.specs.declared.Refusal.the-variants.{NoRoom}
 use Rattle.replies.specs.declared.Said.{Said}
 use Rattle.replies.specs.Saying.{saying}
 use Rattle.replies.proofs.Small.{Small}
-use Rattle.tsurmokan.specs.Signed.{signed, Within}
+use Rattle.numbers.specs.Signed.{signed, Within}
 
 -- a number of 64 bits, read back as it was
 pub back : {z : ℤ} → mag z < 9223372036854775808 → toZ w64 (ofZ w64 z) ≡ z
