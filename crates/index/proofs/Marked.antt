@@ -17,7 +17,7 @@ use Rattle.sets.proofs.Size.{size-flip}
 use Rattle.sets.proofs.LowestMember.{lowest-at, lowest-least, without-at}
 use Rattle.rules.specs.declared.Requirement.{Requirement}
 use Rattle.deck.specs.Deck.{firstOf, secondOf, requirementOf, drawn}
-use Rattle.index.specs.Index.{nearIn, visited, visitedAll, nearCount, marked}
+use Rattle.index.specs.Visits.{nearIn, visited, visitedAll, nearCount, marked}
 
 -- ---- those of a list whose digits are 1
 

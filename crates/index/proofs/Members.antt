@@ -15,7 +15,8 @@ use Rattle.shares.specs.Table.{shared, unshared, lookMask, stepped}
 use Rattle.deck.specs.Deck.{firstOf, secondOf, requirementOf, drawn}
 use Rattle.moves.specs.Moves.{moved, looked}
 use Rattle.moves.proofs.Lists.{none-has}
-use Rattle.index.specs.Index.{membersOf, membersIn, nearIn, visited, visitedAll, nearCount, marked, allBut, Marks}
+use Rattle.index.specs.Visits.{nearIn, visited, visitedAll, nearCount, marked, allBut}
+use Rattle.index.specs.Index.{membersOf, membersIn, Marks}
 use Rattle.index.proofs.Marked.{behind}
 use Rattle.index.proofs.Without.{look-member, step-member}
 

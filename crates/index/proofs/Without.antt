@@ -13,7 +13,7 @@ use Rattle.sets.specs.Blocks.{wrong, nearMask}
 use Rattle.sets.proofs.Members.{has-lt, has-and, has-or, has-xor, has-all, has-high, has-flip, has-flip-other}
 use Rattle.sets.proofs.Size.{size-change}
 use Rattle.shares.specs.Table.{shared, unshared, lookMask, stepped}
-use Rattle.index.specs.Index.{nearIn, visited, allBut}
+use Rattle.index.specs.Visits.{nearIn, visited, allBut}
 
 -- one more on one side or on the other: the lesser is at most 1 where what both have is
 lesser : (w p q : ℕ) → p + q ≡ 1 → (leb (w + p) 1 || leb (w + q) 1) ≡ leb w 1

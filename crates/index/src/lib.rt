@@ -5,7 +5,8 @@ use deck::second_of;
 ghost use mathlib.Core.Path.{_≡_};
 ghost use mathlib.Core.Bool.{cond};
 ghost use Rattle.deck.specs.Deck.{firstOf, secondOf, drawn};
-ghost use Rattle.index.specs.Index.{membersOf, nearIn, visited, visitedAll, nearCount, marked};
+ghost use Rattle.index.specs.Visits.{nearIn, visited, visitedAll, nearCount, marked};
+ghost use Rattle.index.specs.Index.{membersOf};
 
 // The members of the requirement of a card.
 pub fn members_of(blocks: &[u64], card: u32) -> u64

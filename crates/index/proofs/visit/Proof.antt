@@ -8,7 +8,7 @@ use borrow.Author.Needs.{needs}
 use Rattle.sets.specs.Blocks.{nearMask}
 use Rattle.shares.specs.Table.{shared, unshared}
 use Rattle.deck.specs.Deck.{firstOf, secondOf}
-use Rattle.index.specs.Index.{nearIn, visited}
+use Rattle.index.specs.Visits.{nearIn, visited}
 use Rattle.index.proofs.visit.Statement.{statement}
 use Rattle.index.proofs.visit.Tie as tie
 
