@@ -7,8 +7,11 @@ ghost use Rattle.rules.specs.Listing.{rowsOf, dichotomiesOf};
 ghost use Rattle.blocks.specs.BlockTable.{groupsOf, alone, sides, laidOut};
 use rules::Listing;
 
+// The places of the table: 64 for states, and those for the most rows and for the two blocks of the most dichotomies.
+pub const PLACES: usize = 320;
+
 // The n states, each alone.
-fn singles(n: usize, blocks: &mut [u64; 320])
+fn singles(n: usize, blocks: &mut [u64; PLACES])
     requires { ⌜ n ≤ 64 ⌝ }
     ensures { λ r. ⌜ now (blocks .exit) ≡ sets (now (blocks .entry)) 0 (alone (statesFrom 0 n)) ⌝ }
 {
@@ -20,7 +23,7 @@ fn singles(n: usize, blocks: &mut [u64; 320])
 }
 
 // The groups of the rows.
-fn groups(t: Listing, blocks: &mut [u64; 320])
+fn groups(t: Listing, blocks: &mut [u64; PLACES])
     ensures { λ r. ⌜ now (blocks .exit) ≡ sets (now (blocks .entry)) 64 (groupsOf (rowsOf t)) ⌝ }
 {
     let n = sets::least(t.rows, rules::MOST_ROWS);
@@ -33,7 +36,7 @@ fn groups(t: Listing, blocks: &mut [u64; 320])
 }
 
 // The blocks of the dichotomies.
-fn dichotomies(t: Listing, blocks: &mut [u64; 320])
+fn dichotomies(t: Listing, blocks: &mut [u64; PLACES])
     ensures { λ r. ⌜ now (blocks .exit) ≡ sets (now (blocks .entry)) 192 (sides (dichotomiesOf t)) ⌝ }
 {
     let n = sets::least(t.dichotomies, rules::MOST_DICHOTOMIES);
@@ -48,7 +51,7 @@ fn dichotomies(t: Listing, blocks: &mut [u64; 320])
 
 // The table of a listing's blocks, of any Listing value: where it counts more than there are places for, those that have places.
 // What is none of their places is left as it was.
-pub fn lay_blocks(t: Listing, blocks: &mut [u64; 320])
+pub fn lay_blocks(t: Listing, blocks: &mut [u64; PLACES])
     ensures { λ r. ⌜ now (blocks .exit) ≡ laidOut t (now (blocks .entry)) ⌝ }
 {
     singles(sets::least(t.head.states, 64), blocks);

@@ -75,8 +75,8 @@ fn encode_fair(t: rules::Listing, blocks: &[u64], cards: &mut [u32]) -> rules::E
     ensures { λ r. ⌜ r ≡ encodedAs t (coding t) ⌝ }
 {
     let asked = cards.len();
-    let mut by = [255u8; 4400];
-    let mut bits = [0u64; 32];
+    let mut by = [rules::NO_BIT; rules::MOST_ASKED];
+    let mut bits = [0u64; rules::MOST_BITS];
     let width = t.head.width;
     let most = encoding::most_of(width);
     let c = build_bits(blocks, cards, &mut by, &mut bits, t.head.states, most);
@@ -101,8 +101,8 @@ fn encode_fair(t: rules::Listing, blocks: &[u64], cards: &mut [u32]) -> rules::E
 pub fn encode(t: rules::Listing) -> rules::Encoding
     ensures { λ r. ⌜ r ≡ encoded t ⌝ }
 {
-    let mut blocks = [0u64; 320];
-    let mut pile = [0u32; 4400];
+    let mut blocks = [0u64; blocks::PLACES];
+    let mut pile = [0u32; rules::MOST_ASKED];
     match cards::deal_out(t, &mut blocks, &mut pile) {
         cards::Hand::Unfair => encoding::uncoded_as(rules::Refusal::Limit),
         cards::Hand::Cards(asked) => encode_fair(t, &blocks, &mut pile[..asked]),

@@ -15,11 +15,11 @@ fn put_rows(
     head: Head,
     bits: &[u64],
     rows: usize,
-    table: [Row; 128],
+    table: [Row; rules::MOST_ROWS],
 ) -> usize
     ensures { λ r. ⌜ Wrote (now (out .entry)) at (rowTexts head (now (bits .entry)) (take rows table)) r (now (out .exit)) ⌝ }
 {
-    let n = sets::least(rows, 128);
+    let n = sets::least(rows, rules::MOST_ROWS);
     let mut i: usize = 0;
     let mut to = at;
     while i < n {
@@ -43,14 +43,14 @@ fn put_counts(out: &mut [u8], at: usize, inputs: usize, outputs: usize, rows: us
 }
 
 // The cover of a listing within the limits, with the first `width` bits of a code, from the buffer's start.
-fn put_bounded(out: &mut [u8], t: Listing, width: usize, bits: [u64; 32]) -> usize
+fn put_bounded(out: &mut [u8], t: Listing, width: usize, bits: [u64; rules::MOST_BITS]) -> usize
     requires { ⌜ Bounded (t .head) ⌝ }
     ensures { λ r. ⌜ Wrote (now (out .entry)) 0 (cover t (take width bits)) r (now (out .exit)) ⌝ }
 {
     let head = t.head;
     let table = t.table;
-    let w = sets::least(width, 32);
-    let n = sets::least(t.rows, 128);
+    let w = sets::least(width, rules::MOST_BITS);
+    let n = sets::least(t.rows, rules::MOST_ROWS);
     let p = put_counts(out, 0, head.inputs + w, w + head.outputs, n);
     let q = put_rows(out, p, head, &bits[..w], n, table);
     pen::put_bytes(out, q, b".e\n")
@@ -67,7 +67,7 @@ fn is_bounded(inputs: usize, outputs: usize) -> bool
 }
 
 // The cover of any listing; of one with more inputs or outputs than 01 allows, as no reader gives, no text.
-pub fn put_cover(out: &mut [u8], t: Listing, width: usize, bits: [u64; 32]) -> usize
+pub fn put_cover(out: &mut [u8], t: Listing, width: usize, bits: [u64; rules::MOST_BITS]) -> usize
     ensures { λ r. ⌜ Wrote (now (out .entry)) 0 (coverText t (take width bits)) r (now (out .exit)) ⌝ }
 {
     if is_bounded(t.head.inputs, t.head.outputs) {

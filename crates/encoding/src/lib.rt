@@ -16,7 +16,7 @@ pub fn is_met(e: rules::Encoding, r: rules::RequirementNumber) -> bool
         return false;
     }
     let by = e.by;
-    if 4400 <= k {
+    if rules::MOST_ASKED <= k {
         return false;
     }
     by[k] != rules::NO_BIT
@@ -29,9 +29,9 @@ pub fn uncoded_as(r: rules::Refusal) -> rules::Encoding
     rules::Encoding {
         verdict: rules::Verdict::Refused(r, 0),
         width: 0,
-        bits: [0u64; 32],
+        bits: [0u64; rules::MOST_BITS],
         asked: 0,
-        by: [255u8; 4400],
+        by: [rules::NO_BIT; rules::MOST_ASKED],
         passes: 0,
         looks: 0,
     }

@@ -62,8 +62,8 @@ pub fn unmet_count(by: &[u8]) -> usize
 pub fn put_report(out: &mut [u8], states: usize, e: Encoding) -> usize
     ensures { λ r. ⌜ Wrote (now (out .entry)) 0 (encodedReport states e) r (now (out .exit)) ⌝ }
 {
-    let width = sets::least(e.width, 32);
-    let asked = sets::least(e.asked, 4400);
+    let width = sets::least(e.width, rules::MOST_BITS);
+    let asked = sets::least(e.asked, rules::MOST_ASKED);
     let bits = e.bits;
     let by = e.by;
     let unmet = unmet_count(&by[..asked]);

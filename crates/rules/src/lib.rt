@@ -15,6 +15,9 @@ pub const MOST_ROWS: usize = 128;
 
 pub const MOST_DICHOTOMIES: usize = 64;
 
+// Pairs, groups and dichotomies together.
+pub const MOST_ASKED: usize = 4400;
+
 pub const MOST_BYTES: usize = 65536;
 
 pub const MOST_TRIAL: usize = 256;
@@ -60,9 +63,9 @@ pub struct Row {
 pub struct Listing {
     pub head: Head,
     pub rows: usize,
-    pub table: [Row; 128],
+    pub table: [Row; MOST_ROWS],
     pub dichotomies: usize,
-    pub asked: [Requirement; 64],
+    pub asked: [Requirement; MOST_DICHOTOMIES],
 }
 
 // Why a call is refused, in the order of 01's table.
@@ -153,9 +156,9 @@ pub struct Reading {
 pub struct Encoding {
     pub verdict: Verdict,
     pub width: usize,
-    pub bits: [u64; 32],
+    pub bits: [u64; MOST_BITS],
     pub asked: usize,
-    pub by: [u8; 4400],
+    pub by: [u8; MOST_ASKED],
     pub passes: u64,
     pub looks: u64,
 }

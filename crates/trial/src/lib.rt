@@ -9,6 +9,9 @@ ghost use Rattle.deck.specs.Deck.{drawn};
 ghost use Rattle.moves.specs.Moves.{filled};
 ghost use Rattle.trial.specs.Record.{cardOf, deck, blocksOf, taken, turnedDown, none, shown, startOf, nextOf, moveOf, gainOf};
 
+// The blocks of the most requirements, two for each.
+const BLOCKS: usize = 512;
+
 // A trial record: n states, how many requirements it lists, the bit, the states that have moved, the looks so far. Of the blocks the first
 // 256 are first blocks and the others second ones; a card names two of them; the table has each state's level, as passes have it.
 #[repr(C)]
@@ -18,8 +21,8 @@ pub struct Trial {
     pub bit: u64,
     pub moved: u64,
     pub looks: u64,
-    pub blocks: [u64; 512],
-    pub cards: [u32; 256],
+    pub blocks: [u64; BLOCKS],
+    pub cards: [u32; rules::MOST_TRIAL],
     pub table: [u32; 64],
 }
 
@@ -42,20 +45,20 @@ fn store(t: &mut [u64], at: usize, list: &[u64])
 }
 
 // A table of empty blocks.
-fn no_blocks() -> [u64; 512]
+fn no_blocks() -> [u64; BLOCKS]
     ensures { λ r. ⌜ r ≡ replicate 512 0 ⌝ }
 {
-    [0; 512]
+    [0; BLOCKS]
 }
 
 // The blocks of a record: first ones from place 0 on, second ones from place 256 on.
-fn blocks_of(firsts: &[u64], seconds: &[u64]) -> [u64; 512]
+fn blocks_of(firsts: &[u64], seconds: &[u64]) -> [u64; BLOCKS]
     requires { do ⌜ ((← ⟦firsts.len()⟧) ≤ 256) × ((← ⟦seconds.len()⟧) ≤ 256) ⌝ }
     ensures { λ r. ⌜ r ≡ blocksOf (now (firsts .entry)) (now (seconds .entry)) ⌝ }
 {
     let mut t = no_blocks();
     store(&mut t, 0, firsts);
-    store(&mut t, 256, seconds);
+    store(&mut t, rules::MOST_TRIAL, seconds);
     t
 }
 
@@ -64,16 +67,16 @@ fn card_of(i: usize) -> u32
     requires { ⌜ i < 256 ⌝ }
     ensures { λ r. ⌜ r ≡ cardOf i ⌝ }
 {
-    (i + i * 16384 + (256 + i) * 8388608) as u32
+    (i + i * 16384 + (rules::MOST_TRIAL + i) * 8388608) as u32
 }
 
 // The cards of a record, of all requirements that it has room for.
-fn deck_of() -> [u32; 256]
+fn deck_of() -> [u32; rules::MOST_TRIAL]
     ensures { λ r. ⌜ r ≡ deck ⌝ }
 {
-    let mut t = [0; 256];
+    let mut t = [0; rules::MOST_TRIAL];
     let mut i: usize = 0;
-    while i < 256 {
+    while i < rules::MOST_TRIAL {
         t[i] = card_of(i);
         i += 1;
     }
@@ -121,7 +124,7 @@ fn empty() -> Trial
         moved: 0,
         looks: 0,
         blocks: no_blocks(),
-        cards: [0; 256],
+        cards: [0; rules::MOST_TRIAL],
         table: [shares::LEVEL; 64],
     }
 }
