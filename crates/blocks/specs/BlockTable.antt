@@ -20,6 +20,10 @@ firstPlace d = 192 + 2 * d
 abbrev pub secondPlace : ℕ → ℕ
 secondPlace d = 193 + 2 * d
 
+-- so many places, for the most states, rows and dichotomies, and for 64 states where there are more to come
+abbrev pub places : ℕ
+places = 320
+
 -- states, each alone
 abbrev pub alone : List ℕ → List ℕ
 alone ss = map (λ s. only s) ss

@@ -18,17 +18,17 @@ use Rattle.deck.specs.Deck.{numberOf, requirementOf, drawn}
 use Rattle.fair.specs.Fair.{fair}
 use Rattle.blocks.specs.BlockTable.{Laid, laidOut}
 use Rattle.cards.specs.Cards.{cardsOf, numbered}
-use Rattle.cards.specs.Dealing.{most-cards}
 use Rattle.fair.proofs.Limits.{fair-grants, grants-fair}
 use Rattle.blocks.proofs.BlockTable.{laid}
 use Rattle.cards.proofs.Numbers.{plain-cards, number-is, drawn-numbered}
 use Rattle.cards.proofs.Drawn.{cards-show}
 use Rattle.cards.proofs.Twin.{twin, same-requirements, twin-sound}
+use Rattle.rules.specs.Limits.{most-asked}
 
 module _ (t : Listing) (e : fair t ≡ true) where
   -- ---- the requirements
 
-  pub few-requirements : length (requirements t) ≤ most-cards
+  pub few-requirements : length (requirements t) ≤ most-asked
   few-requirements = rw (← same-requirements t) (most-requirements (twin t) (twin-sound t (fair-grants t e)))
 
   pub good-requirements : AllGood (t .head .states) (requirements t)
@@ -45,7 +45,7 @@ module _ (t : Listing) (e : fair t ≡ true) where
       let blocks = laidOut t none in
       sym (length-map (cardsOf t) (requirementOf blocks)) ∙ ap length (cards-show t w blocks (laid t none w (omega (arith, length-replicate {A = ℕ} 320 0))))
 
-  pub few-cards : length (cardsOf t) ≤ most-cards
+  pub few-cards : length (cardsOf t) ≤ most-asked
   few-cards = rw as-many-cards few-requirements
 
   pub drawn-requirements : (blocks : List ℕ) → Laid t blocks → drawn blocks (numbered 0 (cardsOf t)) ≡ requirements t

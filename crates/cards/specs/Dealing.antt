@@ -6,10 +6,7 @@ use lib.ListN.{length, getD}
 use lib.Seq.{sets}
 use Rattle.asking.specs.Asking.{earlierGroups}
 use Rattle.cards.specs.Cards.{rowCards, numbered}
-
--- the most cards of a listing
-abbrev pub most-cards : ℕ
-most-cards = 4400
+use Rattle.rules.specs.Limits.{most-asked}
 
 -- the cards cs are dealt from place k on, and r is the next place; the rest of the pile is as it was
 pub record Dealt (before : List ℕ) (k : ℕ) (cs : List ℕ) (after : List ℕ) (r : ℕ) : Type 0 where
@@ -18,8 +15,8 @@ pub record Dealt (before : List ℕ) (k : ℕ) (cs : List ℕ) (after : List ℕ
 
 -- there is room for the cards cs from place k on
 pub record Room (pile : List ℕ) (k : ℕ) (cs : List ℕ) : Type 0 where
-  pub few : k + length cs ≤ most-cards
-  pub long : most-cards ≤ length pile
+  pub few : k + length cs ≤ most-asked
+  pub long : most-asked ≤ length pile
 
 -- what row r asks
 abbrev pub cardsOfRow : ℕ → List ℕ → ℕ → List ℕ

@@ -4,6 +4,7 @@ ghost use mathlib.Core.List.{[], _∷_};
 ghost use Prim.Native.Nat.{_+_, _-_, _<_, _≤_};
 ghost use lib.ListN.{length, set};
 ghost use Rattle.sets.specs.Sets.{statesFrom};
+ghost use Rattle.rules.specs.Limits.{most-states, most-rows, most-dichotomies};
 ghost use Rattle.rules.specs.Requirements.{outside};
 ghost use Rattle.cards.specs.Cards.{placed, withStates, pairCards, groupCards, dichotomyCards};
 ghost use Rattle.cards.specs.Dealing.{Dealt, Room, cardsOfRow};
@@ -30,7 +31,7 @@ fn deal_state(first: usize, g: u64, s: usize, k: usize, cards: &mut [u32]) -> us
 
 // The cards of a block and each state outside the set g, of the states from `from` up to n.
 fn deal_states(first: usize, g: u64, from: usize, n: usize, k: usize, cards: &mut [u32]) -> usize
-    requires { ⌜ (first < 512) × (n ≤ 32) × Room (now cards) k (withStates first (outside g (statesFrom from (n - from)))) ⌝ }
+    requires { ⌜ (first < 512) × (n ≤ most-states) × Room (now cards) k (withStates first (outside g (statesFrom from (n - from)))) ⌝ }
     ensures { λ r. ⌜ Dealt (now (cards .entry)) k (withStates first (outside g (statesFrom from (n - from)))) (now (cards .exit)) r ⌝ }
 {
     let mut at = k;
@@ -44,7 +45,7 @@ fn deal_states(first: usize, g: u64, from: usize, n: usize, k: usize, cards: &mu
 
 // The pairs of n states.
 pub fn pairs(n: usize, cards: &mut [u32]) -> usize
-    requires { ⌜ (n ≤ 32) × Room (now cards) 0 (pairCards (statesFrom 0 n)) ⌝ }
+    requires { ⌜ (n ≤ most-states) × Room (now cards) 0 (pairCards (statesFrom 0 n)) ⌝ }
     ensures { λ r. ⌜ Dealt (now (cards .entry)) 0 (pairCards (statesFrom 0 n)) (now (cards .exit)) r ⌝ }
 {
     let mut at: usize = 0;
@@ -58,7 +59,7 @@ pub fn pairs(n: usize, cards: &mut [u32]) -> usize
 
 // What row r asks.
 fn deal_row(n: usize, groups: &[u64], r: usize, k: usize, cards: &mut [u32]) -> usize
-    requires { ⌜ (n ≤ 32) × (length (now groups) ≤ 128) × (r < length (now groups)) × Room (now cards) k (cardsOfRow n (now groups) r) ⌝ }
+    requires { ⌜ (n ≤ most-states) × (length (now groups) ≤ most-rows) × (r < length (now groups)) × Room (now cards) k (cardsOfRow n (now groups) r) ⌝ }
     ensures { λ w. ⌜ Dealt (now (cards .entry)) k (cardsOfRow n (now (groups .entry)) r) (now (cards .exit)) w ⌝ }
 {
     let g = groups[r];
@@ -70,7 +71,7 @@ fn deal_row(n: usize, groups: &[u64], r: usize, k: usize, cards: &mut [u32]) -> 
 
 // What the rows with these groups ask.
 pub fn groups(n: usize, groups: &[u64], k: usize, cards: &mut [u32]) -> usize
-    requires { ⌜ (n ≤ 32) × (length (now groups) ≤ 128) × Room (now cards) k (groupCards n 0 [] (now groups)) ⌝ }
+    requires { ⌜ (n ≤ most-states) × (length (now groups) ≤ most-rows) × Room (now cards) k (groupCards n 0 [] (now groups)) ⌝ }
     ensures { λ w. ⌜ Dealt (now (cards .entry)) k (groupCards n 0 [] (now (groups .entry))) (now (cards .exit)) w ⌝ }
 {
     let mut at = k;
@@ -84,7 +85,7 @@ pub fn groups(n: usize, groups: &[u64], k: usize, cards: &mut [u32]) -> usize
 
 // The first n dichotomies.
 pub fn dichotomies(n: usize, k: usize, cards: &mut [u32]) -> usize
-    requires { ⌜ (n ≤ 64) × Room (now cards) k (dichotomyCards 0 n) ⌝ }
+    requires { ⌜ (n ≤ most-dichotomies) × Room (now cards) k (dichotomyCards 0 n) ⌝ }
     ensures { λ r. ⌜ Dealt (now (cards .entry)) k (dichotomyCards 0 n) (now (cards .exit)) r ⌝ }
 {
     let mut at = k;

@@ -6,14 +6,15 @@ ghost use Prim.Native.Nat.{_≤_};
 ghost use lib.ListN.{length};
 ghost use Rattle.cards.specs.Cards.{allCards};
 ghost use Rattle.cards.specs.Dealing.{Dealt, Room};
-ghost use Rattle.blocks.specs.BlockTable.{groupsIn};
+ghost use Rattle.rules.specs.Limits.{most-states, most-rows, most-dichotomies};
+ghost use Rattle.blocks.specs.BlockTable.{places, groupsIn};
 ghost use Rattle.cards.specs.DealtOut.{dealtOut};
 use rules::Listing;
 
 // A card for each requirement of n states, of so many rows and of d dichotomies, numbered from 0 in 01's order: pairs, groups,
 // dichotomies. The groups are read in the table of blocks. The answer is how many cards there are.
 fn draw(n: usize, rows: usize, d: usize, blocks: &[u64], cards: &mut [u32]) -> usize
-    requires { ⌜ (n ≤ 32) × (rows ≤ 128) × (d ≤ 64) × (320 ≤ length (now blocks)) × Room (now cards) 0 (allCards n (groupsIn (now blocks) rows) d) ⌝ }
+    requires { ⌜ (n ≤ most-states) × (rows ≤ most-rows) × (d ≤ most-dichotomies) × (places ≤ length (now blocks)) × Room (now cards) 0 (allCards n (groupsIn (now blocks) rows) d) ⌝ }
     ensures { λ r. ⌜ Dealt (now (cards .entry)) 0 (allCards n (groupsIn (now (blocks .entry)) rows) d) (now (cards .exit)) r ⌝ }
 {
     let pairs = deal::pairs(n, cards);

@@ -7,7 +7,7 @@ use native.Mathlib.Numerals.{add-one}
 use native.Mathlib.Omega.{arith}
 use lib.ListN.{length, take, drop, set, length-map, length-take, length-append, length-set, length-drop, length-replicate, take-append-drop}
 use lib.Seq.{drop-drop, take-append-seam, take-suc-set, drop-set-lt, take-length, length-take-le}
-use Rattle.rules.specs.Limits.{most-bits}
+use Rattle.rules.specs.Limits.{most-bits, most-asked}
 use Rattle.rules.specs.OneBit.{Bit, newBit}
 use Rattle.rules.specs.Code.{Coding, coded, uncoded, build, unmetBy}
 use Rattle.rules.specs.declared.Requirement.{Requirement}
@@ -17,7 +17,7 @@ use Rattle.rules.proofs.Complement.{new-bit-lt}
 use Rattle.deck.specs.Deck.{requirementOf, drawn}
 use Rattle.moves.proofs.Ready.{Ready}
 use Rattle.sift.specs.Sift.{liveCards, sifted, noted}
-use Rattle.encoding.specs.Encode.{most-asked, no-bit}
+use Rattle.encoding.specs.Encode.{no-bit}
 use Rattle.nextbit.specs.NextBit.{AddedBit, nextBy}
 use Rattle.nextbit.proofs.NextBit.{next-bit, new-bit-few}
 use Rattle.nextbit.proofs.Live.{leftOf, left-all, left-count, left-good, left-next, live-count, live-drawn}

@@ -12,9 +12,10 @@ use Rattle.rules.specs.Requirements.{metByCode, requirements}
 use Rattle.rules.specs.Code.{Code, coded}
 use Rattle.rules.specs.declared.Listing.{Listing}
 use Rattle.rules.specs.declared.RequirementNumber.{RequirementNumber}
-use Rattle.encoding.specs.Encode.{most-asked, no-bit, metFirst, padded, encodedAs, metBy}
+use Rattle.encoding.specs.Encode.{no-bit, metFirst, padded, encodedAs, metBy}
 use Rattle.encoding.proofs.Lists.{map-at, padded-inside}
 use Rattle.encoding.proofs.FirstMet.{noted-met}
+use Rattle.rules.specs.Limits.{most-asked}
 
 module _ (t : Listing) (c : Code) (r : RequirementNumber) where
   first : ℕ

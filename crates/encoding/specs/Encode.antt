@@ -4,7 +4,7 @@ use mathlib.Core.List.{List, [], _∷_, _++_, map}
 use Prim.Native.Nat.{ℕ, _+_, _-_}
 use lib.Dec.{ltb, eqb}
 use lib.ListN.{length, getD, replicate}
-use Rattle.rules.specs.Limits.{most-bits}
+use Rattle.rules.specs.Limits.{most-bits, most-asked}
 use Rattle.rules.specs.Requirements.{met, requirements}
 use Rattle.rules.specs.Code.{Coding, coded, uncoded, coding}
 use Rattle.rules.specs.declared.Requirement.{Requirement}
@@ -15,10 +15,7 @@ use Rattle.rules.specs.declared.Verdict.{Verdict}
 use Rattle.rules.specs.declared.Refusal.the-variants.{Limit}
 use Rattle.fair.specs.Fair.{fair}
 
--- the most requirements, and what is noted for one that no bit meets
-abbrev pub most-asked : ℕ
-most-asked = 4400
-
+-- what is noted for a requirement that no bit meets
 abbrev pub no-bit : ℕ
 no-bit = 255
 

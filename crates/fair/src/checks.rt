@@ -3,6 +3,7 @@ ghost use mathlib.Core.Path.{_≡_};
 ghost use mathlib.Core.Bool.{true};
 ghost use Prim.Native.Nat.{_≤_, _^_};
 ghost use lib.Dec.{ltb};
+ghost use Rattle.rules.specs.Limits.{most-states};
 ghost use Rattle.rules.specs.Listing.{rowsOf, dichotomiesOf};
 ghost use Rattle.fair.specs.Fair.{each, groupWithin, blocksWithin, withinLimits};
 use rules::Listing;
@@ -10,7 +11,7 @@ use rules::Requirement;
 
 // Whether the states of m are all below n.
 fn within(n: usize, m: u64) -> bool
-    requires { ⌜ n ≤ 32 ⌝ }
+    requires { ⌜ n ≤ most-states ⌝ }
     ensures { λ r. ⌜ r ≡ ltb m (2 ^ n) ⌝ }
 {
     m < 1 << n
@@ -54,7 +55,7 @@ pub fn groups_within(t: Listing) -> bool
 
 // Whether a dichotomy has two blocks of the states that have none in common.
 fn blocks_within(n: usize, d: Requirement) -> bool
-    requires { ⌜ n ≤ 32 ⌝ }
+    requires { ⌜ n ≤ most-states ⌝ }
     ensures { λ r. ⌜ r ≡ blocksWithin n d ⌝ }
 {
     if !within(n, d.first) {

@@ -7,7 +7,7 @@ use Prim.Native.Nat.{ℕ, _-_, _≤_, _<_}
 use native.Mathlib.Omega.{arith}
 use lib.ListN.{length, getD, replicate, length-map, List·getD-append}
 use lib.Seq.{take-append-seam}
-use Rattle.rules.specs.Limits.{most-bits}
+use Rattle.rules.specs.Limits.{most-bits, most-asked}
 use Rattle.rules.specs.Listing.{noRequirement}
 use Rattle.rules.specs.Requirements.{metByCode, requirements}
 use Rattle.rules.specs.Code.{Code, Coding, coded, uncoded, coding}
@@ -21,7 +21,7 @@ use Rattle.rules.proofs.Built.{mostOf, most-few, was-built}
 use Rattle.rules.proofs.Good.{code-built}
 use Rattle.moves.proofs.Ready.{sound-ready}
 use Rattle.cards.proofs.FairListings.{sound-fair}
-use Rattle.encoding.specs.Encode.{most-asked, no-bit, padded, metFirst, encodedAs, encoded}
+use Rattle.encoding.specs.Encode.{no-bit, padded, metFirst, encodedAs, encoded}
 use Rattle.encoding.proofs.Lists.{map-at, padded-length}
 use Rattle.encoding.proofs.FirstMet.{no-bit-unmet}
 use Rattle.encoding.proofs.Answered.{encoded-is}

@@ -5,7 +5,7 @@ use mathlib.Core.List.{List, _++_}
 use Prim.Native.Nat.{ℕ, _^_, _≤_, _<_}
 use lib.Dec.{leb}
 use lib.ListN.{length, take, drop}
-use Rattle.rules.specs.Limits.{most-bits}
+use Rattle.rules.specs.Limits.{most-bits, most-asked}
 use Rattle.rules.specs.Requirements.{pairsAndGroups}
 use Rattle.rules.specs.Code.{Code, coded, coding, unmetFrom}
 use Rattle.rules.specs.Cover.{cover}
@@ -58,7 +58,7 @@ pub record Whole (t : Listing) (e : Encoding) : Type 0 where
   pub is : coding t ≡ coded code
   pub holds : Holds t code e
   pub narrow : e .width ≤ most-bits
-  pub few : e .asked ≤ 4400
-  pub places : length (e .by) ≡ 4400
+  pub few : e .asked ≤ most-asked
+  pub places : length (e .by) ≡ most-asked
   pub few-passes : e .passes < 2 ^ 64
   pub few-looks : e .looks < 2 ^ 64

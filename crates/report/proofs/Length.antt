@@ -10,7 +10,7 @@ use Rattle.sets.specs.Sets.{has}
 use Rattle.rules.specs.declared.Encoding.{Encoding}
 use Rattle.rules.specs.declared.StateNumber.{StateNumber}
 use Rattle.rules.specs.declared.RequirementNumber.{RequirementNumber}
-use Rattle.rules.specs.Limits.{most-states, most-bits}
+use Rattle.rules.specs.Limits.{most-states, most-bits, most-asked}
 use Rattle.rules.specs.Text.{nought}
 use Rattle.rules.specs.Code.{codeOf}
 use Rattle.rules.specs.Report.{codeText, countLine, stateLine, unmetLine}
@@ -67,13 +67,13 @@ unmet-few k (b ∷ by) = go (eqb b noBit) refl (unmet-few (suc k) by)
 
 -- ---- the whole
 
-pub report-length : (n : ℕ) (e : Encoding) → n ≤ most-states → e .width ≤ most-bits → e .asked ≤ 4400 → e .passes < 2 ^ 64 → e .looks < 2 ^ 64 → length (encodedReport n e) ≤ 36509
+pub report-length : (n : ℕ) (e : Encoding) → n ≤ most-states → e .width ≤ most-bits → e .asked ≤ most-asked → e .passes < 2 ^ 64 → e .looks < 2 ^ 64 → length (encodedReport n e) ≤ 36509
 unfolding encodedReport
 report-length n e hn hw ha hp hl =
     let by : List ℕ = take (e .asked) (e .by) in
-    let few : length by ≤ 4400 = omega (arith, length-take (e .asked) (e .by)) in
+    let few : length by ≤ most-asked = omega (arith, length-take (e .asked) (e .by)) in
     let narrow : length (take (e .width) (e .bits)) ≤ most-bits = omega (arith, length-take (e .width) (e .bits)) in
-    let u : length (unmetIn 0 by) ≤ 4400 = omega (arith, unmet-few 0 by) in
+    let u : length (unmetIn 0 by) ≤ most-asked = omega (arith, unmet-few 0 by) in
     let c = count-length (e .width) (e .asked) (length (unmetIn 0 by)) (e .passes) (e .looks) (omega arith) (omega arith) (omega arith) hp hl in
     let s = states-length (take (e .width) (e .bits)) n narrow (omega arith) in
     let l = unmets-length 0 by (omega arith) in

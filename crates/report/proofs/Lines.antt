@@ -5,6 +5,7 @@ use Prim.Native.Nat.{ℕ, _+_, min}
 use lib.ListN.{length, take}
 use Rattle.sets.specs.Sets.{statesFrom}
 use Rattle.rules.specs.declared.Encoding.{Encoding}
+use Rattle.rules.specs.Limits.{most-bits, most-asked}
 use Rattle.rules.specs.Text.{bytes, one}
 use Rattle.rules.specs.Report.{countLine, stateLine, joinedLines}
 use Rattle.pen.proofs.Growing.{states-one, joined-more, take-most}
@@ -27,13 +28,13 @@ states-more bits i =
 
 pub report-parts : (n : ℕ) (e : Encoding) {w a u : ℕ}
     → length (e .bits) ≡ 32
-    → length (e .by) ≡ 4400
+    → length (e .by) ≡ most-asked
     → w ≡ min (e .width) 32
-    → a ≡ min (e .asked) 4400
+    → a ≡ min (e .asked) most-asked
     → u ≡ length (unmetIn 0 (take a (e .by)))
     → countLine (e .width) (e .asked) u (e .passes) (e .looks)
     ++ (stateLines (take w (e .bits)) n ++ (unmetLines (unmetIn 0 (take a (e .by))) ++ bytes "EN\n"))
     ≡ encodedReport n e
 unfolding encodedReport
 report-parts n e hb hy hw ha hu =
-    rw (hu, hw, ha, take-most (e .width) 32 (e .bits) hb, take-most (e .asked) 4400 (e .by) hy)
+    rw (hu, hw, ha, take-most (e .width) most-bits (e .bits) hb, take-most (e .asked) most-asked (e .by) hy)

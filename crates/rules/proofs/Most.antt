@@ -12,7 +12,7 @@ use Rattle.sets.specs.Sets.{has, only, size, total, statesFrom}
 use Rattle.sets.proofs.Every.{and-first}
 use Rattle.sets.proofs.Members.{has-lt}
 use Rattle.sets.proofs.Size.{size-total}
-use Rattle.rules.specs.Limits.{most-states, most-rows, most-dichotomies}
+use Rattle.rules.specs.Limits.{most-states, most-rows, most-dichotomies, most-asked}
 use Rattle.rules.specs.Listing.{noRow, rowsOf, dichotomiesOf}
 use Rattle.rules.specs.Requirements.{asks, pairs, outside, stood, groupAsks, groups, pairsAndGroups, requirements}
 use Rattle.rules.specs.declared.Requirement.{Requirement}
@@ -113,7 +113,7 @@ module _ (t : Listing) (s : Sound t) where
   few-dichotomies : length (dichotomiesOf t) ≤ most-dichotomies
   few-dichotomies = omega (arith, length-take (t .dichotomies) (t .asked), s .asked)
 
-  pub most-requirements : length (requirements t) ≤ 4400
+  pub most-requirements : length (requirements t) ≤ most-asked
   unfolding requirements pairsAndGroups
   most-requirements =
       omega (

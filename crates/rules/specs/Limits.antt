@@ -20,6 +20,10 @@ most-rows = 128
 abbrev pub most-dichotomies : ℕ
 most-dichotomies = 64
 
+-- pairs, groups and dichotomies together: 496 + 3,840 + 64
+abbrev pub most-asked : ℕ
+most-asked = 4400
+
 abbrev pub most-bytes : ℕ
 most-bytes = 65536
 

@@ -7,6 +7,7 @@ use lib.ListN.{length, take, replicate, getD}
 use lib.Seq.{sets}
 use lib.IntN.{ℤ, pos, subℕ}
 use Rattle.sets.specs.Sets.{flip}
+use Rattle.rules.specs.Limits.{most-trial}
 use Rattle.rules.specs.Trial.{startable}
 use Rattle.rules.specs.declared.Requirement.{Requirement}
 use Rattle.rules.specs.declared.StateNumber.{StateNumber}
@@ -31,7 +32,7 @@ turnedDown t = record { verdict = Verdict.Refused BadCall 0; trial = t }
 
 -- requirement i has the first block i and the second block 256 + i
 abbrev pub cardOf : ℕ → ℕ
-cardOf i = i + i * 16384 + (256 + i) * 8388608
+cardOf i = i + i * 16384 + (most-trial + i) * 8388608
 
 -- k cards, the first of them i
 unfoldable pub cardsFrom : ℕ → ℕ → List ℕ
@@ -40,11 +41,11 @@ cardsFrom i (suc k) = cardOf i ∷ cardsFrom (suc i) k
 
 unfoldable pub deck : List ℕ
 unfolding cardsFrom
-deck = cardsFrom 0 256
+deck = cardsFrom 0 most-trial
 
 -- the first blocks from place 0 on, and the second from place 256 on
 unfoldable pub blocksOf : List ℕ → List ℕ → List ℕ
-blocksOf fs gs = sets (sets (replicate 512 0) 0 fs) 256 gs
+blocksOf fs gs = sets (sets (replicate 512 0) 0 fs) most-trial gs
 
 -- the empty record: no states, no requirements, no looks
 unfoldable pub none : Trial
@@ -55,7 +56,7 @@ none = record {
   moved = 0;
   looks = 0;
   blocks = replicate 512 0;
-  cards = replicate 256 0;
+  cards = replicate most-trial 0;
   table = replicate 64 level;
 }
 

@@ -3,6 +3,7 @@ ghost use mathlib.Core.Path.{_≡_};
 ghost use Prim.Native.Nat.{_+_, _<_, _≤_};
 ghost use lib.ListN.{replicate};
 ghost use lib.Seq.{sets};
+ghost use Rattle.rules.specs.Limits.{most-trial};
 ghost use Rattle.rules.specs.Cases.{verdictNumbers};
 ghost use Rattle.shares.specs.Table.{level};
 ghost use Rattle.deck.specs.Deck.{drawn};
@@ -53,7 +54,7 @@ fn no_blocks() -> [u64; BLOCKS]
 
 // The blocks of a record: first ones from place 0 on, second ones from place 256 on.
 fn blocks_of(firsts: &[u64], seconds: &[u64]) -> [u64; BLOCKS]
-    requires { do ⌜ ((← ⟦firsts.len()⟧) ≤ 256) × ((← ⟦seconds.len()⟧) ≤ 256) ⌝ }
+    requires { do ⌜ ((← ⟦firsts.len()⟧) ≤ most-trial) × ((← ⟦seconds.len()⟧) ≤ most-trial) ⌝ }
     ensures { λ r. ⌜ r ≡ blocksOf (now (firsts .entry)) (now (seconds .entry)) ⌝ }
 {
     let mut t = no_blocks();
@@ -64,7 +65,7 @@ fn blocks_of(firsts: &[u64], seconds: &[u64]) -> [u64; BLOCKS]
 
 // The card of requirement i.
 fn card_of(i: usize) -> u32
-    requires { ⌜ i < 256 ⌝ }
+    requires { ⌜ i < most-trial ⌝ }
     ensures { λ r. ⌜ r ≡ cardOf i ⌝ }
 {
     (i + i * 16384 + (rules::MOST_TRIAL + i) * 8388608) as u32
@@ -94,7 +95,7 @@ fn levels_at(blocks: &[u64], cards: &[u32], b: u64) -> [u32; 64]
 
 // The record that shows a start.
 fn shown_at(n: usize, bit: u64, firsts: &[u64], seconds: &[u64]) -> Trial
-    requires { do ⌜ ((← ⟦firsts.len()⟧) ≤ 256) × ((← ⟦seconds.len()⟧) ≤ 256) ⌝ }
+    requires { do ⌜ ((← ⟦firsts.len()⟧) ≤ most-trial) × ((← ⟦seconds.len()⟧) ≤ most-trial) ⌝ }
     ensures { λ r. ⌜ r ≡ shown n bit (now (firsts .entry)) (now (seconds .entry)) ⌝ }
 {
     let count = firsts.len();
@@ -150,7 +151,7 @@ fn refused(t: Trial) -> Answer
 
 // The record after the move of s.
 fn next_of(t: Trial, s: usize) -> Trial
-    requires { ⌜ (t .count ≤ 256) × (s < 64) ⌝ }
+    requires { ⌜ (t .count ≤ most-trial) × (s < 64) ⌝ }
     ensures { λ r. ⌜ r ≡ nextOf t s ⌝ }
 {
     let bit = t.bit;

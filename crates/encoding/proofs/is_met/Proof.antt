@@ -2,7 +2,7 @@
 use mathlib.Core.Bool.{not}
 use lib.Dec.{eqb}
 use lib.ListN.{length-map, List·getD-eq-default, length}
-use Rattle.encoding.specs.Encode.{most-asked, no-bit, metBy}
+use Rattle.encoding.specs.Encode.{no-bit, metBy}
 use Rattle.encoding.proofs.Lists.{getD-within}
 use Prim.Native.Nat.{ℕ}
 use mathlib.Core.Path.{_≡_, sym, ap, _∙_}
@@ -13,6 +13,7 @@ use Rattle.encoding.proofs.is_met.Statement.{statement}
 use Rattle.encoding.proofs.is_met.Tie as tie
 use Rattle.encoding.proofs.is_met.Reads as reads
 use Rattle.encoding.proofs.is_met.Lts as lts
+use Rattle.rules.specs.Limits.{most-asked}
 
 -- the notes of an encoding have a place for each requirement that there can be
 by-length : (s : lts.Start reads.Pre reads.Post) → length (s .args .e .by) ≡ most-asked
