@@ -20,7 +20,7 @@ firstPlace d = 192 + 2 * d
 abbrev pub secondPlace : ℕ → ℕ
 secondPlace d = 193 + 2 * d
 
--- so many places, for the most states, rows and dichotomies, and for 64 states where there are more to come
+-- how many places there are: one for each state that a mask can have, then for the most rows, then two for each of the most dichotomies
 abbrev pub places : ℕ
 places = 320
 

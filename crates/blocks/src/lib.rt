@@ -7,7 +7,7 @@ ghost use Rattle.rules.specs.Listing.{rowsOf, dichotomiesOf};
 ghost use Rattle.blocks.specs.BlockTable.{groupsOf, alone, sides, laidOut};
 use rules::Listing;
 
-// The places of the table: 64 for states, and those for the most rows and for the two blocks of the most dichotomies.
+// The places of the table: one for each state that a mask can have, then for the most rows, then two for each of the most dichotomies.
 pub const PLACES: usize = 320;
 
 // The n states, each alone.

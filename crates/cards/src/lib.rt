@@ -30,7 +30,11 @@ pub enum Hand {
 
 // The table of a listing's blocks, and over it a card for each requirement, in 01's order. What is none of their places is left
 // as it came; so are both arrays whole, of a listing that is not fair.
-pub fn deal_out(t: Listing, blocks: &mut [u64; blocks::PLACES], cards: &mut [u32; rules::MOST_ASKED]) -> Hand
+pub fn deal_out(
+    t: Listing,
+    blocks: &mut [u64; blocks::PLACES],
+    cards: &mut [u32; rules::MOST_ASKED],
+) -> Hand
     ensures { λ r. ⌜ (r, now (blocks .exit), now (cards .exit)) ≡ dealtOut t (now (blocks .entry)) (now (cards .entry)) ⌝ }
 {
     if !fair::is_fair(t) {

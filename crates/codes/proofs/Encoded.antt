@@ -8,7 +8,7 @@ use lib.Dec.{eqb}
 use lib.ListN.{length, drop, replicate, length-replicate}
 use Rattle.rules.specs.Limits.{most-bits, most-asked}
 use Rattle.rules.specs.Requirements.{requirements}
-use Rattle.rules.specs.Code.{Coding, coded, uncoded, build, coding, wideEnough, unmet, unmetFrom}
+use Rattle.rules.specs.Code.{Coding, coded, uncoded, build, coding, wideEnough, unmet, unmetFrom, no-bit}
 use Rattle.rules.specs.declared.Requirement.{Requirement}
 use Rattle.rules.specs.declared.Listing.{Listing}
 use Rattle.rules.specs.declared.Encoding.{Encoding}
@@ -23,7 +23,7 @@ use Rattle.cards.specs.Cards.{cardsOf, numbered}
 use Rattle.fair.proofs.Limits.{fair-grants}
 use Rattle.cards.proofs.Dealing.{numbered-length}
 use Rattle.cards.proofs.FairListings.{few-cards, few-requirements, good-requirements, as-many-cards, drawn-requirements, card-number}
-use Rattle.encoding.specs.Encode.{no-bit, noEncoding, encodedAs}
+use Rattle.encoding.specs.Encode.{noEncoding, encodedAs}
 use Rattle.codes.specs.Build.{Begun, Done, Outcome}
 
 drop-replicate : (k w v : ℕ) → drop k (replicate w v) ≡ replicate (w - k) v

@@ -7,13 +7,14 @@ use native.Mathlib.Decide.{decLt}
 use native.Mathlib.Omega.{arith}
 use lib.ListN.{length, getD, set, replicate, length-set, length-map, length-replicate}
 use lib.Seq.{getD-set-same, getD-set-other, ext-getD}
+use Rattle.rules.specs.Code.{no-bit}
 use Rattle.rules.specs.Listing.{noRequirement}
 use Rattle.rules.specs.Requirements.{met, metByCode}
 use Rattle.rules.specs.declared.Requirement.{Requirement}
 use Rattle.rules.proofs.Good.{Good, AllGood}
 use Rattle.deck.specs.Deck.{numberOf, requirementOf, drawn}
 use Rattle.sift.specs.Sift.{metCard, notedCard, noted}
-use Rattle.encoding.specs.Encode.{no-bit, metFirst, padded}
+use Rattle.encoding.specs.Encode.{metFirst, padded}
 use Rattle.encoding.proofs.Lists.{map-at, replicate-at, padded-length, padded-inside, padded-behind}
 use Rattle.nextbit.proofs.Live.{leftOf, card-met-left, card-left, card-met}
 use Rattle.encoding.proofs.FirstMet.{first-none, first-next}

@@ -9,7 +9,7 @@ use lib.ListN.{length, take, drop, set, length-map, length-take, length-append, 
 use lib.Seq.{drop-drop, take-append-seam, take-suc-set, drop-set-lt, take-length, length-take-le}
 use Rattle.rules.specs.Limits.{most-bits, most-asked}
 use Rattle.rules.specs.OneBit.{Bit, newBit}
-use Rattle.rules.specs.Code.{Coding, coded, uncoded, build, unmetBy}
+use Rattle.rules.specs.Code.{Coding, coded, uncoded, build, unmetBy, no-bit}
 use Rattle.rules.specs.declared.Requirement.{Requirement}
 use Rattle.rules.specs.declared.Refusal.the-variants.{Stalled}
 use Rattle.rules.proofs.Good.{start-lt}
@@ -17,7 +17,6 @@ use Rattle.rules.proofs.Complement.{new-bit-lt}
 use Rattle.deck.specs.Deck.{requirementOf, drawn}
 use Rattle.moves.proofs.Ready.{Ready}
 use Rattle.sift.specs.Sift.{liveCards, sifted, noted}
-use Rattle.encoding.specs.Encode.{no-bit}
 use Rattle.nextbit.specs.NextBit.{AddedBit, nextBy}
 use Rattle.nextbit.proofs.NextBit.{next-bit, new-bit-few}
 use Rattle.nextbit.proofs.Live.{leftOf, left-all, left-count, left-good, left-next, live-count, live-drawn}

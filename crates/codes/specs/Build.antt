@@ -5,12 +5,12 @@ use mathlib.Core.List.{List, _++_, map}
 use Prim.Native.Nat.{ℕ, _≤_, _<_}
 use lib.ListN.{length, getD, drop, replicate}
 use Rattle.rules.specs.Limits.{most-bits, most-asked}
-use Rattle.rules.specs.Code.{Code, coded, uncoded, build, unmetFrom}
+use Rattle.rules.specs.Code.{Code, coded, uncoded, build, unmetFrom, no-bit}
 use Rattle.rules.specs.declared.Requirement.{Requirement}
 use Rattle.rules.specs.declared.Refusal.the-variants.{Stalled}
 use Rattle.deck.specs.Deck.{numberOf, drawn}
 use Rattle.moves.proofs.Ready.{Ready}
-use Rattle.encoding.specs.Encode.{no-bit, padded, metFirst}
+use Rattle.encoding.specs.Encode.{padded, metFirst}
 
 -- a run of bits begins: a card for each requirement, numbered from 0, nothing noted, and room for the bits
 pub record Begun (blocks : List ℕ) (n most : ℕ) (cards by bits : List ℕ) : Type 0 where

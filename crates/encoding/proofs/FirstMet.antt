@@ -8,9 +8,10 @@ use native.Mathlib.Omega.{arith}
 use lib.Dec.{eqb}
 use lib.ListN.{length}
 use borrow.Author.Tests.{eq-eqb, ne-eqb}
+use Rattle.rules.specs.Code.{no-bit}
 use Rattle.rules.specs.Requirements.{met, metByCode}
 use Rattle.rules.specs.declared.Requirement.{Requirement}
-use Rattle.encoding.specs.Encode.{no-bit, metFirst}
+use Rattle.encoding.specs.Encode.{metFirst}
 
 module _ (n : ℕ) (r : Requirement) where
   first-here : (k b : ℕ) (bs : List ℕ) → met n r b ≡ true → metFirst k n (b ∷ bs) r ≡ k

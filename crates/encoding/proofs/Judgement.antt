@@ -9,10 +9,10 @@ use lib.ListN.{length, getD, length-map}
 use borrow.Author.Tests.{lt-ltb, le-ltb}
 use Rattle.rules.specs.Listing.{noRequirement}
 use Rattle.rules.specs.Requirements.{metByCode, requirements}
-use Rattle.rules.specs.Code.{Code, coded}
+use Rattle.rules.specs.Code.{Code, coded, no-bit}
 use Rattle.rules.specs.declared.Listing.{Listing}
 use Rattle.rules.specs.declared.RequirementNumber.{RequirementNumber}
-use Rattle.encoding.specs.Encode.{no-bit, metFirst, padded, encodedAs, metBy}
+use Rattle.encoding.specs.Encode.{metFirst, padded, encodedAs, metBy}
 use Rattle.encoding.proofs.Lists.{map-at, padded-inside}
 use Rattle.encoding.proofs.FirstMet.{noted-met}
 use Rattle.rules.specs.Limits.{most-asked}

@@ -6,7 +6,7 @@ use lib.Dec.{ltb, eqb}
 use lib.ListN.{length, getD, replicate}
 use Rattle.rules.specs.Limits.{most-bits, most-asked}
 use Rattle.rules.specs.Requirements.{met, requirements}
-use Rattle.rules.specs.Code.{Coding, coded, uncoded, coding}
+use Rattle.rules.specs.Code.{Coding, coded, uncoded, coding, no-bit}
 use Rattle.rules.specs.declared.Requirement.{Requirement}
 use Rattle.rules.specs.declared.RequirementNumber.{RequirementNumber}
 use Rattle.rules.specs.declared.Listing.{Listing}
@@ -14,10 +14,6 @@ use Rattle.rules.specs.declared.Encoding.{Encoding}
 use Rattle.rules.specs.declared.Verdict.{Verdict}
 use Rattle.rules.specs.declared.Refusal.the-variants.{Limit}
 use Rattle.fair.specs.Fair.{fair}
-
--- what is noted for a requirement that no bit meets
-abbrev pub no-bit : ℕ
-no-bit = 255
 
 -- the number of the first bit that meets r, where the first of the list has the number k
 unfoldable pub metFirst : ℕ → ℕ → List ℕ → Requirement → ℕ

@@ -10,7 +10,7 @@ use lib.Seq.{take-append-seam}
 use Rattle.rules.specs.Limits.{most-bits, most-asked}
 use Rattle.rules.specs.Listing.{noRequirement}
 use Rattle.rules.specs.Requirements.{metByCode, requirements}
-use Rattle.rules.specs.Code.{Code, Coding, coded, uncoded, coding}
+use Rattle.rules.specs.Code.{Code, Coding, coded, uncoded, coding, no-bit}
 use Rattle.rules.specs.declared.Listing.{Listing}
 use Rattle.rules.specs.declared.Encoding.{Encoding}
 use Rattle.rules.specs.declared.Verdict.{Verdict}
@@ -21,12 +21,12 @@ use Rattle.rules.proofs.Built.{mostOf, most-few, was-built}
 use Rattle.rules.proofs.Good.{code-built}
 use Rattle.moves.proofs.Ready.{sound-ready}
 use Rattle.cards.proofs.FairListings.{sound-fair}
-use Rattle.encoding.specs.Encode.{no-bit, padded, metFirst, encodedAs, encoded}
+use Rattle.encoding.specs.Encode.{padded, metFirst, encodedAs, encoded}
 use Rattle.encoding.proofs.Lists.{map-at, padded-length}
 use Rattle.encoding.proofs.FirstMet.{no-bit-unmet}
 use Rattle.encoding.proofs.Answered.{encoded-is}
 use Rattle.nextbit.proofs.Counters.{FewIn, few-counted}
-use Rattle.report.specs.Report.{noBit, Holds}
+use Rattle.report.specs.Report.{Holds}
 use Rattle.replies.specs.Saying.{Whole}
 
 module _ (t : Listing) (s : Sound t) where
@@ -40,7 +40,7 @@ module _ (t : Listing) (s : Sound t) where
     counters : FewIn (mostOf t) c
     counters = few-counted (mostOf t) (t .head .states) (requirements t) c (sound-ready t s) (was-built t c e)
 
-    noted-unmet : (k : ℕ) → k < length (requirements t) → getD (encodedAs t (coded c) .by) k 0 ≡ noBit ↔ metByCode (t .head .states) (c .bits) (getD (requirements t) k noRequirement) ≡ false
+    noted-unmet : (k : ℕ) → k < length (requirements t) → getD (encodedAs t (coded c) .by) k 0 ≡ no-bit ↔ metByCode (t .head .states) (c .bits) (getD (requirements t) k noRequirement) ≡ false
     unfolding encodedAs
     noted-unmet k h =
         let f = metFirst 0 (t .head .states) (c .bits) in

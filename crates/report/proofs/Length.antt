@@ -12,10 +12,10 @@ use Rattle.rules.specs.declared.StateNumber.{StateNumber}
 use Rattle.rules.specs.declared.RequirementNumber.{RequirementNumber}
 use Rattle.rules.specs.Limits.{most-states, most-bits, most-asked}
 use Rattle.rules.specs.Text.{nought}
-use Rattle.rules.specs.Code.{codeOf}
+use Rattle.rules.specs.Code.{codeOf, no-bit}
 use Rattle.rules.specs.Report.{codeText, countLine, stateLine, unmetLine}
 use Rattle.pen.proofs.Decimal.{decimal-length}
-use Rattle.report.specs.Report.{noBit, unmetIn, stateLines, unmetLines, encodedReport}
+use Rattle.report.specs.Report.{unmetIn, stateLines, unmetLines, encodedReport}
 use Rattle.entries.proofs.Fields.{count-fields, state-fields}
 use Rattle.report.proofs.Lines.{states-none, states-more}
 use Rattle.report.proofs.Unmet.{unmet-in, unmet-out, unmet-empty, lines-empty, lines-cons}
@@ -51,17 +51,17 @@ states-length bits (suc n) h k =
 
 unmets-length : (k : ℕ) (by : List ℕ) → k + length by ≤ 10000 → length (unmetLines (unmetIn k by)) ≤ 8 * length by
 unmets-length k [] h = rw (unmet-empty k, lines-empty) (omega arith)
-unmets-length k (b ∷ by) h = go (eqb b noBit) refl (unmets-length (suc k) by (omega arith))
+unmets-length k (b ∷ by) h = go (eqb b no-bit) refl (unmets-length (suc k) by (omega arith))
   where
-    go : (t : Bool) → eqb b noBit ≡ t → length (unmetLines (unmetIn (suc k) by)) ≤ 8 * length by → length (unmetLines (unmetIn k (b ∷ by))) ≤ 8 * suc (length by)
+    go : (t : Bool) → eqb b no-bit ≡ t → length (unmetLines (unmetIn (suc k) by)) ≤ 8 * length by → length (unmetLines (unmetIn k (b ∷ by))) ≤ 8 * suc (length by)
     go true e ih = rw (unmet-in k b by e, lines-cons, length-append) (omega (arith, unmet-length (record { 0 = k }) (omega arith)))
     go false e ih = rw (unmet-out k b by e) (omega arith)
 
 unmet-few : (k : ℕ) (by : List ℕ) → length (unmetIn k by) ≤ length by
 unmet-few k [] = rw (unmet-empty k) (omega arith)
-unmet-few k (b ∷ by) = go (eqb b noBit) refl (unmet-few (suc k) by)
+unmet-few k (b ∷ by) = go (eqb b no-bit) refl (unmet-few (suc k) by)
   where
-    go : (t : Bool) → eqb b noBit ≡ t → length (unmetIn (suc k) by) ≤ length by → length (unmetIn k (b ∷ by)) ≤ suc (length by)
+    go : (t : Bool) → eqb b no-bit ≡ t → length (unmetIn (suc k) by) ≤ length by → length (unmetIn k (b ∷ by)) ≤ suc (length by)
     go true e ih = rw (unmet-in k b by e) (omega arith)
     go false e ih = rw (unmet-out k b by e) (omega arith)
 

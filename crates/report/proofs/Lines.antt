@@ -6,7 +6,7 @@ use lib.ListN.{length, take}
 use Rattle.sets.specs.Sets.{statesFrom}
 use Rattle.rules.specs.declared.Encoding.{Encoding}
 use Rattle.rules.specs.Limits.{most-bits, most-asked}
-use Rattle.rules.specs.Text.{bytes, one}
+use Rattle.rules.specs.Text.{bytes}
 use Rattle.rules.specs.Report.{countLine, stateLine, joinedLines}
 use Rattle.pen.proofs.Growing.{states-one, joined-more, take-most}
 use Rattle.report.specs.Report.{stateLines, unmetIn, unmetLines, encodedReport}

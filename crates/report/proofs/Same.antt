@@ -10,13 +10,13 @@ use lib.Seq.{take-nil}
 use borrow.Author.Tests.{eq-eqb, ne-eqb}
 use Rattle.rules.specs.Listing.{noRequirement}
 use Rattle.rules.specs.Requirements.{requirements, metByCode}
-use Rattle.rules.specs.Code.{Code, unmetFrom, unmet}
+use Rattle.rules.specs.Code.{Code, unmetFrom, unmet, no-bit}
 use Rattle.rules.specs.Text.{bytes}
 use Rattle.rules.specs.Report.{countLine, report}
 use Rattle.rules.specs.declared.Requirement.{Requirement}
 use Rattle.rules.specs.declared.Listing.{Listing}
 use Rattle.rules.specs.declared.Encoding.{Encoding}
-use Rattle.report.specs.Report.{noBit, unmetIn, stateLines, unmetLines, encodedReport, Holds}
+use Rattle.report.specs.Report.{unmetIn, stateLines, unmetLines, encodedReport, Holds}
 use Rattle.report.proofs.Unmet.{unmet-in, unmet-out, unmet-empty}
 
 module _ (n : ℕ) (bits : List ℕ) where
@@ -35,7 +35,7 @@ module _ (n : ℕ) (bits : List ℕ) where
 
 -- the numbers unmet are the same, where `by` and the requirements agree one by one; behind the end of `by` nothing is unmet
 pub same-unmet : (n : ℕ) (bits by : List ℕ) (k : ℕ) (rs : List Requirement)
-    → ((j : ℕ) → j < length rs → getD by j 0 ≡ noBit ↔ metByCode n bits (getD rs j noRequirement) ≡ false)
+    → ((j : ℕ) → j < length rs → getD by j 0 ≡ no-bit ↔ metByCode n bits (getD rs j noRequirement) ≡ false)
     → unmetIn k (take (length rs) by) ≡ unmetFrom k n bits rs
 same-unmet n bits by k [] h = unmet-empty k ∙ sym (from-empty n bits k)
 same-unmet n bits [] k (r ∷ rs) h = go (metByCode n bits r) refl (same-unmet n bits [] (suc k) rs (λ j p. h (suc j) (omega arith)))
@@ -47,11 +47,11 @@ same-unmet n bits (b ∷ by) k (r ∷ rs) h = go (metByCode n bits r) refl (same
   where
     go : (t : Bool) → metByCode n bits r ≡ t → unmetIn (suc k) (take (length rs) by) ≡ unmetFrom (suc k) n bits rs → unmetIn k (b ∷ take (length rs) by) ≡ unmetFrom k n bits (r ∷ rs)
     go true e more =
-        unmet-out k b (take (length rs) by) (ne-eqb b noBit (λ q. absurd (let z : _≡_ {A = Bool} true false = sym e ∙ h 0 (omega arith) .0 q in let y : _≡_ {A = ℕ} 0 1 = cc in omega arith)))
+        unmet-out k b (take (length rs) by) (ne-eqb b no-bit (λ q. absurd (let z : _≡_ {A = Bool} true false = sym e ∙ h 0 (omega arith) .0 q in let y : _≡_ {A = ℕ} 0 1 = cc in omega arith)))
         ∙ more
         ∙ sym (from-out n bits k r rs e)
     go false e more =
-        unmet-in k b (take (length rs) by) (eq-eqb b noBit (h 0 (omega arith) .1 e)) ∙ ap (λ (l : List ℕ). k ∷ l) more ∙ sym (from-in n bits k r rs e)
+        unmet-in k b (take (length rs) by) (eq-eqb b no-bit (h 0 (omega arith) .1 e)) ∙ ap (λ (l : List ℕ). k ∷ l) more ∙ sym (from-in n bits k r rs e)
 
 -- a report by its parts
 text : ℕ → ℕ → List ℕ → ℕ → List ℕ → ℕ → ℕ → List ℕ

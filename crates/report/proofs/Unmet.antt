@@ -9,18 +9,19 @@ use lib.Dec.{eqb}
 use lib.ListN.{length, take, getD, length-append}
 use lib.Seq.{length-take-le}
 use borrow.Author.Tests.{eq-eqb, ne-eqb, eqb-true, eqb-false}
+use Rattle.rules.specs.Code.{no-bit}
 use Rattle.rules.specs.declared.RequirementNumber.{RequirementNumber}
 use Rattle.rules.specs.Report.{unmetLine, joinedLines}
 use Rattle.pen.proofs.Growing.{take-one, joined-append, joined-one}
-use Rattle.report.specs.Report.{noBit, unmetIn, unmetLineIf, unmetLines}
+use Rattle.report.specs.Report.{unmetIn, unmetLineIf, unmetLines}
 
 -- ---- the two cases
 
-pub unmet-in : (k b : ℕ) (bs : List ℕ) → eqb b noBit ≡ true → unmetIn k (b ∷ bs) ≡ k ∷ unmetIn (suc k) bs
+pub unmet-in : (k b : ℕ) (bs : List ℕ) → eqb b no-bit ≡ true → unmetIn k (b ∷ bs) ≡ k ∷ unmetIn (suc k) bs
 unfolding unmetIn
 unmet-in k b bs e = rw (e, unmetIn)
 
-pub unmet-out : (k b : ℕ) (bs : List ℕ) → eqb b noBit ≡ false → unmetIn k (b ∷ bs) ≡ unmetIn (suc k) bs
+pub unmet-out : (k b : ℕ) (bs : List ℕ) → eqb b no-bit ≡ false → unmetIn k (b ∷ bs) ≡ unmetIn (suc k) bs
 unfolding unmetIn
 unmet-out k b bs e = rw (e, unmetIn)
 
@@ -34,9 +35,9 @@ unmet-append : (k : ℕ) (xs : List ℕ) (b : ℕ) → unmetIn k (xs ++ (b ∷ [
 unmet-append k [] b = rw (unmet-empty k, add-zero)
 unmet-append k (x ∷ xs) b =
     let e : suc k + length xs ≡ k + suc (length xs) = omega arith in
-    go (eqb x noBit) refl (rw (← e) (unmet-append (suc k) xs b))
+    go (eqb x no-bit) refl (rw (← e) (unmet-append (suc k) xs b))
   where
-    go : (t : Bool) → eqb x noBit ≡ t
+    go : (t : Bool) → eqb x no-bit ≡ t
         → unmetIn (suc k) (xs ++ (b ∷ [])) ≡ unmetIn (suc k) xs ++ unmetIn (k + suc (length xs)) (b ∷ [])
         → unmetIn k (x ∷ (xs ++ (b ∷ []))) ≡ unmetIn k (x ∷ xs) ++ unmetIn (k + suc (length xs)) (b ∷ [])
     go true e more = rw (unmet-in k x (xs ++ (b ∷ [])) e, unmet-in k x xs e) (ap (λ (l : List ℕ). k ∷ l) more)
@@ -53,10 +54,10 @@ unmet-one by k h =
 pub count-none : length (unmetIn 0 []) ≡ 0
 count-none = rw (unmet-empty 0)
 
-pub count-in : (by : List ℕ) (k : ℕ) → k < length by → getD by k 0 ≡ noBit → length (unmetIn 0 (take (k + 1) by)) ≡ length (unmetIn 0 (take k by)) + 1
+pub count-in : (by : List ℕ) (k : ℕ) → k < length by → getD by k 0 ≡ no-bit → length (unmetIn 0 (take (k + 1) by)) ≡ length (unmetIn 0 (take k by)) + 1
 count-in by k h e = rw (unmet-one by k h, unmet-in k (getD by k 0) [] (eq-eqb _ _ e), unmet-empty (suc k), length-append)
 
-pub count-out : (by : List ℕ) (k : ℕ) → k < length by → (getD by k 0 ≡ noBit → ⊥) → length (unmetIn 0 (take (k + 1) by)) ≡ length (unmetIn 0 (take k by))
+pub count-out : (by : List ℕ) (k : ℕ) → k < length by → (getD by k 0 ≡ no-bit → ⊥) → length (unmetIn 0 (take (k + 1) by)) ≡ length (unmetIn 0 (take k by))
 count-out by k h e = rw (unmet-one by k h, unmet-out k (getD by k 0) [] (ne-eqb _ _ e), unmet-empty (suc k), append-nil)
 
 -- ---- and written
@@ -73,13 +74,13 @@ pub lines-none : unmetLines (unmetIn 0 []) ≡ []
 lines-none = rw (unmet-empty 0, lines-empty)
 
 -- one requirement's line
-pub line-in : (b : ℕ) (r : RequirementNumber) → b ≡ noBit → unmetLine r ≡ unmetLineIf b r
+pub line-in : (b : ℕ) (r : RequirementNumber) → b ≡ no-bit → unmetLine r ≡ unmetLineIf b r
 unfolding unmetLineIf
-line-in b r e = rw (eq-eqb b noBit e, unmetLineIf)
+line-in b r e = rw (eq-eqb b no-bit e, unmetLineIf)
 
-pub line-out : (b : ℕ) (r : RequirementNumber) → (b ≡ noBit → ⊥) → [] ≡ unmetLineIf b r
+pub line-out : (b : ℕ) (r : RequirementNumber) → (b ≡ no-bit → ⊥) → [] ≡ unmetLineIf b r
 unfolding unmetLineIf
-line-out b r e = rw (ne-eqb b noBit e, unmetLineIf)
+line-out b r e = rw (ne-eqb b no-bit e, unmetLineIf)
 
 lines-append : (xs ys : List ℕ) → unmetLines (xs ++ ys) ≡ unmetLines xs ++ unmetLines ys
 unfolding unmetLines
@@ -89,11 +90,11 @@ lines-append xs ys =
 
 line-if : (k b : ℕ) → unmetLines (unmetIn k (b ∷ [])) ≡ unmetLineIf b (record { 0 = k })
 unfolding unmetLines joinedLines
-line-if k b = go (eqb b noBit) refl
+line-if k b = go (eqb b no-bit) refl
   where
-    go : (t : Bool) → eqb b noBit ≡ t → unmetLines (unmetIn k (b ∷ [])) ≡ unmetLineIf b (record { 0 = k })
-    go true e = rw (unmet-in k b [] e, unmet-empty (suc k)) (joined-one (unmetLine (record { 0 = k })) ∙ line-in b (record { 0 = k }) (eqb-true b noBit e))
-    go false e = rw (unmet-out k b [] e, unmet-empty (suc k)) (line-out b (record { 0 = k }) (eqb-false b noBit e))
+    go : (t : Bool) → eqb b no-bit ≡ t → unmetLines (unmetIn k (b ∷ [])) ≡ unmetLineIf b (record { 0 = k })
+    go true e = rw (unmet-in k b [] e, unmet-empty (suc k)) (joined-one (unmetLine (record { 0 = k })) ∙ line-in b (record { 0 = k }) (eqb-true b no-bit e))
+    go false e = rw (unmet-out k b [] e, unmet-empty (suc k)) (line-out b (record { 0 = k }) (eqb-false b no-bit e))
 
 pub lines-one : (by : List ℕ) (k : ℕ) → k < length by → unmetLines (unmetIn 0 (take (k + 1) by)) ≡ unmetLines (unmetIn 0 (take k by)) ++ unmetLineIf (getD by k 0) (record { 0 = k })
 lines-one by k h =

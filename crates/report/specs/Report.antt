@@ -10,24 +10,20 @@ use Rattle.sets.specs.Sets.{statesFrom}
 use Rattle.rules.specs.Text.{bytes}
 use Rattle.rules.specs.Listing.{noRequirement}
 use Rattle.rules.specs.Requirements.{requirements, metByCode}
-use Rattle.rules.specs.Code.{Code}
+use Rattle.rules.specs.Code.{Code, no-bit}
 use Rattle.rules.specs.Report.{countLine, stateLine, unmetLine, joinedLines}
 use Rattle.rules.specs.declared.Listing.{Listing}
 use Rattle.rules.specs.declared.Encoding.{Encoding}
 use Rattle.rules.specs.declared.RequirementNumber.{RequirementNumber}
 
--- what stands in `by` for a requirement that no bit meets
-abbrev pub noBit : ℕ
-noBit = 255
-
 -- the numbers of the requirements that no bit meets, ascending; the first of the list has the number k
 unfoldable pub unmetIn : ℕ → List ℕ → List ℕ
 unmetIn k [] = []
-unmetIn k (b ∷ bs) = let rest = unmetIn (suc k) bs in elim (eqb b noBit) [ true ↦ k ∷ rest | false ↦ rest ]
+unmetIn k (b ∷ bs) = let rest = unmetIn (suc k) bs in elim (eqb b no-bit) [ true ↦ k ∷ rest | false ↦ rest ]
 
 -- the line of requirement r, where no bit meets it
 unfoldable pub unmetLineIf : ℕ → RequirementNumber → List ℕ
-unmetLineIf b r = elim (eqb b noBit) [ true ↦ unmetLine r | false ↦ [] ]
+unmetLineIf b r = elim (eqb b no-bit) [ true ↦ unmetLine r | false ↦ [] ]
 
 -- a line for each of the first n states
 unfoldable pub stateLines : List ℕ → ℕ → List ℕ
@@ -51,6 +47,6 @@ pub record Holds (t : Listing) (c : Code) (e : Encoding) : Type 0 where
   pub width : e .width ≡ length (c .bits)
   pub bits : take (e .width) (e .bits) ≡ c .bits
   pub asked : e .asked ≡ length (requirements t)
-  pub by : (k : ℕ) → k < e .asked → getD (e .by) k 0 ≡ noBit ↔ metByCode (t .head .states) (c .bits) (getD (requirements t) k noRequirement) ≡ false
+  pub by : (k : ℕ) → k < e .asked → getD (e .by) k 0 ≡ no-bit ↔ metByCode (t .head .states) (c .bits) (getD (requirements t) k noRequirement) ≡ false
   pub passes : e .passes ≡ c .passes
   pub looks : e .looks ≡ c .looks

@@ -7,10 +7,11 @@ use native.Mathlib.Omega.{arith}
 use borrow.Author.Needs.{needs}
 use borrow.Author.Tests.{not-true, not-false}
 use lib.ListN.{length, length-map}
+use Rattle.rules.specs.Limits.{most-asked}
 use Rattle.fair.specs.Fair.{fair}
 use Rattle.cards.specs.Cards.{allCards, cardsOf}
 use Rattle.cards.specs.Dealing.{Room}
-use Rattle.blocks.specs.BlockTable.{groupsIn}
+use Rattle.blocks.specs.BlockTable.{places, groupsIn}
 use Rattle.blocks.proofs.BlockTable.{laid-length}
 use Rattle.cards.proofs.FairListings.{few-cards}
 use Rattle.cards.proofs.Dealing.{dealt-piled}
@@ -36,16 +37,16 @@ long-rows c = sym (length-map (c .args .t .table) _) ∙ c .good .0 .1 .1 .1 .1 
 long-asked : (c : tie.Start) → length (c .args .t .asked) ≡ 64
 long-asked c = sym (length-map (c .args .t .asked) _) ∙ c .good .0 .1 .1 .1 .1 .1 .1 .0 .1 .0 .1
 
-long-table : (c : tie.After-draw-arg2) → 320 ≤ length (c .before .before .lay-blocks .last .1 .0)
+long-table : (c : tie.After-draw-arg2) → places ≤ length (c .before .before .lay-blocks .last .1 .0)
 long-table c = search needs
 
-long-blocks : (c : tie.After-draw-arg2) → 320 ≤ length (c .before .before .before .before .before .before .args .blocks .now)
+long-blocks : (c : tie.After-draw-arg2) → places ≤ length (c .before .before .before .before .before .before .args .blocks .now)
 long-blocks c =
     let x = c .before .before in
     let a = x .before .before .before .before .args in
     omega (arith, long-table c, ap length (x .lay-blocks .ensures), laid-length (a .t) (a .blocks .now))
 
-long-cards : (c : tie.After-draw-arg3) → 4400 ≤ length (c .before .before .before .before .before .before .before .args .cards .now)
+long-cards : (c : tie.After-draw-arg3) → most-asked ≤ length (c .before .before .before .before .before .before .before .args .cards .now)
 long-cards c = search needs
 
 -- ---- a fair listing

@@ -2,7 +2,8 @@
 use mathlib.Core.Bool.{not}
 use lib.Dec.{eqb}
 use lib.ListN.{length-map, List·getD-eq-default, length}
-use Rattle.encoding.specs.Encode.{no-bit, metBy}
+use Rattle.rules.specs.Code.{no-bit}
+use Rattle.encoding.specs.Encode.{metBy}
 use Rattle.encoding.proofs.Lists.{getD-within}
 use Prim.Native.Nat.{ℕ}
 use mathlib.Core.Path.{_≡_, sym, ap, _∙_}

@@ -5,16 +5,17 @@ use native.Mathlib.Omega.{arith}
 use lib.ListN.{length, length-map}
 use lib.Seq.{length-take-le}
 use borrow.Author.Needs.{needs}
+use Rattle.rules.specs.Limits.{most-bits, most-asked}
 use Rattle.pen.proofs.Laws.{wrote-then, wrote-as}
 use Rattle.report.proofs.Lines.{report-parts}
 use Rattle.report.proofs.put_report.Statement.{statement}
 use Rattle.report.proofs.put_report.Tie as tie
 
 -- the lengths of the answer's arrays, and that the parts written are parts of them
-bits-length : (c : tie.Start) → length (c .args .e .bits) ≡ 32
+bits-length : (c : tie.Start) → length (c .args .e .bits) ≡ most-bits
 bits-length c = sym (length-map (c .args .e .bits) _) ∙ c .good .1 .1 .0 .1 .1 .1 .1 .0 .1 .0 .1
 
-by-length : (c : tie.Start) → length (c .args .e .by) ≡ 4400
+by-length : (c : tie.Start) → length (c .args .e .by) ≡ most-asked
 by-length c = sym (length-map (c .args .e .by) _) ∙ c .good .1 .1 .0 .1 .1 .1 .1 .1 .1 .0 .1 .0 .1
 
 bits-part : (c : tie.After-least) → c .least .result ≤ length (c .before .before .args .e .bits)
