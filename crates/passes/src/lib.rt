@@ -14,7 +14,8 @@ ghost use Rattle.deck.specs.Deck.{drawn};
 ghost use Rattle.index.specs.Index.{membersIn, Index};
 ghost use Rattle.choice.specs.Pass.{going, goOn, passed, passesBy, tallied, builtBy};
 
-// How many cards an index has room for: few, some, or all that a listing can ask for. Of more cards those beyond it are visited in every move.
+// How many cards an index has room for, in runs of 64: few, some, or all that a listing can ask for, which are 4,400. Of more cards those beyond it are
+// visited in every move.
 const FEW: usize = 64;
 
 const SOME: usize = 512;
