@@ -10,6 +10,7 @@ use lib.ListN.{length, getD, replicate, length-append, length-map, length-replic
 use lib.Pow.{pow-pos, pow-lt}
 use lib.Seq.{take-at}
 use borrow.Author.Tests.{leb-true, ne-eqb}
+use Rattle.sets.proofs.Places.{map-at}
 use Rattle.sets.specs.Sets.{size, statesFrom}
 use Rattle.rules.specs.Limits.{most-rows, most-dichotomies}
 use Rattle.rules.specs.Listing.{noRow, noRequirement, rowsOf, dichotomiesOf}
@@ -107,11 +108,6 @@ filled-length w a l h = omega (arith, length-append l (replicate (w - length l) 
 filled-at : {A : Type 0} (w : ℕ) (a : A) (l : List A) (d : A) (k : ℕ) → k < length l → getD (filled w a l) k d ≡ getD l k d
 filled-at w a l d k h = List·getD-append l (replicate (w - length l) a) d k h
 
-map-at : {A B : Type 0} (f : A → B) (d : A) (e : B) (l : List A) (k : ℕ) → k < length l → getD (map f l) k e ≡ f (getD l k d)
-map-at f d e [] k h = absurd (omega arith)
-map-at f d e (x ∷ xs) zero h = refl
-map-at f d e (x ∷ xs) (suc k) h = map-at f d e xs k (omega arith)
-
 twin-group-lt : (n g : ℕ) → 1 ≤ n → g < 2 ^ n → twinGroup g < 2 ^ n
 unfolding twinGroup
 twin-group-lt n zero h p = pow-lt h
@@ -158,7 +154,7 @@ module _ (t : Listing) (f : Fair t) where
         };
         few-rows = few-rows;
         table = filled-length most-rows noRow (map twinRow rows) (omega arith);
-        row = λ k h. rw (filled-at most-rows noRow (map twinRow rows) noRow k (omega arith), map-at twinRow noRow noRow rows k h)
+        row = λ k h. rw (filled-at most-rows noRow (map twinRow rows) noRow k (omega arith), map-at twinRow rows k noRow noRow h)
             (twin-row (getD rows k noRow) (f .group k h));
         few-dichotomies = few-ds;
         asked = filled-length most-dichotomies noRequirement ds few-ds;

@@ -12,9 +12,8 @@ use lib.ListN.{getD}
 use lib.Pow.{pow-pos}
 use borrow.Author.Tests.{lt-ltb, le-ltb}
 use Rattle.sets.specs.Sets.{has, flip, everyone, size, withoutLowest}
-use Rattle.sets.proofs.Members.{has-lt, has-and, has-all, has-high, has-none, has-flip, has-flip-other, flip-lt}
-use Rattle.sets.proofs.Size.{size-flip}
-use Rattle.sets.proofs.LowestMember.{lowest-at, lowest-least, without-at}
+use Rattle.sets.proofs.Members.{has-lt, has-and, has-all, has-high, has-none, has-flip, has-flip-other}
+use Rattle.sets.proofs.LowestMember.{lowest-at, lowest-least, without-at, without-lt, without-fewer}
 use Rattle.rules.specs.OneBit.{rather}
 use Rattle.choice.specs.Pass.{highest}
 
@@ -102,11 +101,11 @@ module _ (n free : ℕ) (t : List ℕ) where
       passed = λ i p. out i p (ℕ-discrete i k);
       later = λ i p q. same i (λ d. omega arith) ∙ later i (omega arith) q;
       beyond = λ i p. same i (λ d. omega (arith, inside)) ∙ beyond i p;
-      fits = rw is (flip-lt 64 m k fits (lowest .0));
+      fits = without-lt m k m′ fits some ek em;
     }
 
     fewer : size m′ < size m
-    fewer = rw is (omega (arith, size-flip 64 m k fits (lowest .0), lowest .1))
+    fewer = without-fewer m k m′ fits some ek em
 
   -- the free states below n
   module _ (e m : ℕ) (ee : e ≡ everyone (min n 64)) (em : m ≡ bitAnd free e) (hf : free < 2 ^ 64) where

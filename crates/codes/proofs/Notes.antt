@@ -15,7 +15,8 @@ use Rattle.rules.proofs.Good.{Good, AllGood}
 use Rattle.deck.specs.Deck.{numberOf, requirementOf, drawn}
 use Rattle.sift.specs.Sift.{metCard, notedCard, noted}
 use Rattle.encoding.specs.Encode.{metFirst, padded}
-use Rattle.encoding.proofs.Lists.{map-at, replicate-at, padded-length, padded-inside, padded-behind}
+use Rattle.sets.proofs.Places.{map-at}
+use Rattle.encoding.proofs.Lists.{replicate-at, padded-length, padded-inside, padded-behind}
 use Rattle.nextbit.proofs.Live.{leftOf, card-met-left, card-left, card-met}
 use Rattle.encoding.proofs.FirstMet.{first-none, first-next}
 

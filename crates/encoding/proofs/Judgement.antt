@@ -13,7 +13,8 @@ use Rattle.rules.specs.Code.{Code, coded, no-bit}
 use Rattle.rules.specs.declared.Listing.{Listing}
 use Rattle.rules.specs.declared.RequirementNumber.{RequirementNumber}
 use Rattle.encoding.specs.Encode.{metFirst, padded, encodedAs, metBy}
-use Rattle.encoding.proofs.Lists.{map-at, padded-inside}
+use Rattle.sets.proofs.Places.{map-at}
+use Rattle.encoding.proofs.Lists.{padded-inside}
 use Rattle.encoding.proofs.FirstMet.{noted-met}
 use Rattle.rules.specs.Limits.{most-asked}
 

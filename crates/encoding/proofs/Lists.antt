@@ -1,6 +1,6 @@
--- Places of a list: inside it, of a mapped one, and of one filled up.
+-- Places of a list: inside it, and of one filled up.
 use mathlib.Core.Path.{_≡_, refl, sym, ap, _∙_}
-use mathlib.Core.List.{List, [], _∷_, map}
+use mathlib.Core.List.{List, [], _∷_}
 use Prim.Native.Nat.{ℕ, zero, suc, _+_, _-_, _≤_, _<_}
 use native.Mathlib.Omega.{arith}
 use lib.ListN.{length, getD, replicate, length-append, length-replicate, List·getD-append}
@@ -12,11 +12,6 @@ pub getD-within : (l : List ℕ) (i d e : ℕ) → i < length l → getD l i d �
 getD-within [] i d e h = absurd (omega arith)
 getD-within (x ∷ xs) zero d e h = refl
 getD-within (x ∷ xs) (suc i) d e h = getD-within xs i d e (omega arith)
-
-pub map-at : {A B : Type 0} (f : A → B) (l : List A) (i : ℕ) (d : A) (e : B) → i < length l → getD (map f l) i e ≡ f (getD l i d)
-map-at f [] i d e h = absurd (omega arith)
-map-at f (x ∷ xs) zero d e h = refl
-map-at f (x ∷ xs) (suc i) d e h = map-at f xs i d e (omega arith)
 
 pub replicate-at : (w v i : ℕ) → getD (replicate w v) i v ≡ v
 replicate-at zero v i = refl

@@ -1,7 +1,7 @@
 -- The index of a list of sets is made of one set after the other, each by one digit in the words of its members.
 use mathlib.Core.Path.{_≡_, refl, sym, ap, _∙_, subst}
 use mathlib.Core.Bool.{Bool, true, false, cond}
-use mathlib.Core.List.{List, [], _∷_, map}
+use mathlib.Core.List.{List}
 use Prim.Native.Nat.{ℕ, zero, suc, _+_, _*_, _%_, _^_, _≤_, _<_, min}
 use native.Mathlib.Omega.{arith}
 use native.Mathlib.Decide.{decLt, ℕ-discrete}
@@ -11,9 +11,8 @@ use lib.ListN.{length, getD, set, take, replicate, length-set, length-take, getD
 use lib.Seq.{getD-set-same, getD-set-other, getD-take, take-all}
 use borrow.Author.Tests.{eq-eqb, ne-eqb}
 use Rattle.sets.specs.Sets.{has, flip, size, withoutLowest}
-use Rattle.sets.proofs.Members.{has-lt, has-none, has-flip, has-flip-other, flip-lt}
-use Rattle.sets.proofs.Size.{size-flip}
-use Rattle.sets.proofs.LowestMember.{lowest-at, without-at}
+use Rattle.sets.proofs.Members.{has-lt, has-none, has-flip, has-flip-other}
+use Rattle.sets.proofs.LowestMember.{lowest-at, without-at, without-lt, without-fewer}
 use Rattle.index.specs.Index.{Index, Turned}
 
 -- ---- one digit, in the words of the members of a set
@@ -68,18 +67,12 @@ module _ (at k m : ℕ) (t₀ : List ℕ) where
     }
 
     pub turned-fits : rest′ < 2 ^ 64
-    turned-fits = rw is (flip-lt 64 rest s fits (lowest .0))
+    turned-fits = without-lt rest s rest′ fits some es er
 
     pub turned-fewer : size rest′ < size rest
-    turned-fewer = rw is (let c = size-flip 64 rest s fits (lowest .0) in let h = lowest .1 in omega arith)
+    turned-fewer = without-fewer rest s rest′ fits some es er
 
 -- ---- one set after the other
-
--- the set of a card
-pub map-at : (f : ℕ → ℕ) (l : List ℕ) (i : ℕ) → i < length l → getD (map f l) i 0 ≡ f (getD l i 0)
-map-at f [] i h = absurd (omega arith)
-map-at f (x ∷ xs) zero h = refl
-map-at f (x ∷ xs) (suc i) h = map-at f xs i (omega arith)
 
 -- nothing is marked
 pub index-start : (sets t : List ℕ) → length t % 64 ≡ 0 → t ≡ replicate (length t) 0 → Index (take 0 sets) t

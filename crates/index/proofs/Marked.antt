@@ -13,8 +13,7 @@ use lib.ListN.{length, getD, length-map, List·getD-map}
 use borrow.Author.Tests.{eq-eqb, ne-eqb}
 use Rattle.sets.specs.Sets.{has, flip, size, everyone, withoutLowest}
 use Rattle.sets.proofs.Members.{has-lt, has-none, has-and, has-all, has-high, has-flip, has-flip-other, flip-lt, not-lt}
-use Rattle.sets.proofs.Size.{size-flip}
-use Rattle.sets.proofs.LowestMember.{lowest-at, lowest-least, without-at}
+use Rattle.sets.proofs.LowestMember.{lowest-at, lowest-least, without-at, without-fewer}
 use Rattle.rules.specs.declared.Requirement.{Requirement}
 use Rattle.deck.specs.Deck.{firstOf, secondOf, requirementOf, drawn}
 use Rattle.index.specs.Visits.{nearIn, visited, visitedAll, nearCount, marked}
@@ -183,8 +182,7 @@ module _ (blocks run : List ℕ) (word b a others : ℕ) (t₀ : List ℕ) where
           other i h (no n) = sym (has-flip-other rest k i n) ∙ h
 
     pub left-fewer : (rest′ : ℕ) → rest′ ≡ withoutLowest rest → size rest′ < size rest
-    left-fewer rest′ er =
-        rw (without-at rest k rest′ some ek er) (let c = size-flip 64 rest k (left .fits) (lowest .0) in let h = lowest .1 in omega arith)
+    left-fewer rest′ er = without-fewer rest k rest′ (left .fits) some ek er
 
   pub left-end : (t : List ℕ) (looks rest : ℕ) → Left blocks run word b a others t₀ t looks rest → rest ≡ 0
       → (looks ≡ nearCount others (marked word 0 (drawn blocks run)) b) × (t ≡ visitedAll others (marked word 0 (drawn blocks run)) b a t₀)

@@ -12,7 +12,7 @@ use Rattle.shares.specs.Table.{stepped}
 use Rattle.deck.specs.Deck.{requirementOf, drawn}
 use Rattle.moves.specs.Moves.{moved, looked}
 use Rattle.index.specs.Index.{membersOf, membersIn, Marks, Index}
-use Rattle.index.proofs.Indexed.{map-at}
+use Rattle.sets.proofs.Places.{map-at}
 
 moved-both : (xs ys : List Requirement) (b a s : ℕ) (t : List ℕ) → moved (xs ++ ys) b a s t ≡ moved ys b a s (moved xs b a s t)
 unfolding moved
@@ -57,9 +57,9 @@ module _ (blocks cards : List ℕ) (at end : ℕ) where
     -- what is read of the run is read of the list, also past the end of both
     member-run : (k : ℕ) → k < 64 → Dec (at + k < length cards) → getD (membersIn blocks run) k 0 ≡ getD (membersIn blocks cards) (at + k) 0
     member-run k h (yes p) =
-        map-at (membersOf blocks) run k (omega (arith, length-take (end - at) (drop at cards), length-drop at cards))
+        map-at (membersOf blocks) run k 0 0 (omega (arith, length-take (end - at) (drop at cards), length-drop at cards))
         ∙ ap (membersOf blocks) (getD-take (end - at) (drop at cards) k 0 (omega arith) ∙ getD-drop at cards k 0)
-        ∙ sym (map-at (membersOf blocks) cards (at + k) p)
+        ∙ sym (map-at (membersOf blocks) cards (at + k) 0 0 p)
     member-run k h (no p) =
         List·getD-eq-default (membersIn blocks run) 0 {n = k} (omega (arith, long))
         ∙ sym (List·getD-eq-default (membersIn blocks cards) 0 {n = at + k} (omega (arith, length-map cards (membersOf blocks))))

@@ -22,7 +22,8 @@ use Rattle.rules.proofs.Good.{code-built}
 use Rattle.moves.proofs.Ready.{sound-ready}
 use Rattle.cards.proofs.FairListings.{sound-fair}
 use Rattle.encoding.specs.Encode.{padded, metFirst, encodedAs, encoded}
-use Rattle.encoding.proofs.Lists.{map-at, padded-length}
+use Rattle.sets.proofs.Places.{map-at}
+use Rattle.encoding.proofs.Lists.{padded-length}
 use Rattle.encoding.proofs.FirstMet.{no-bit-unmet}
 use Rattle.encoding.proofs.Answered.{encoded-is}
 use Rattle.nextbit.proofs.Counters.{FewIn, few-counted}

@@ -8,8 +8,9 @@ use lib.Arith.{lt-one}
 use lib.Bits.{bitAnd, bitXor, differ, and-step, and-self, xor-step, xor-zero-r}
 use lib.Count.{trailingZeros, under}
 use borrow.Author.Tests.{eq-eqb, ne-eqb}
-use Rattle.sets.specs.Sets.{has, flip, withoutLowest}
-use Rattle.sets.proofs.Members.{has-zero, has-suc, half-lt}
+use Rattle.sets.specs.Sets.{has, flip, size, withoutLowest}
+use Rattle.sets.proofs.Members.{has-zero, has-suc, half-lt, flip-lt}
+use Rattle.sets.proofs.Size.{size-flip}
 
 -- a set that is not empty has it
 pub lowest-has : (n m : ℕ) → m < 2 ^ n → 0 < m → (trailingZeros n m < n) × (has m (trailingZeros n m) ≡ 1)
@@ -78,3 +79,12 @@ without-some m o = ap (λ (t : Bool). cond t 0 (flip m (trailingZeros 64 m))) (n
 -- the same, as a loop over the members finds it
 pub without-at : (m s r : ℕ) → (m ≡ 0 → ⊥) → s ≡ trailingZeros 64 m → r ≡ withoutLowest m → r ≡ flip m s
 without-at m s r o e h = h ∙ without-some m o ∙ ap (flip m) (sym e)
+
+-- it is a set of as many states, with fewer members
+pub without-lt : (m s r : ℕ) → m < 2 ^ 64 → (m ≡ 0 → ⊥) → s ≡ trailingZeros 64 m → r ≡ withoutLowest m → r < 2 ^ 64
+without-lt m s r p o e h = rw (without-at m s r o e h) (flip-lt 64 m s p (lowest-at m s p o e .0))
+
+pub without-fewer : (m s r : ℕ) → m < 2 ^ 64 → (m ≡ 0 → ⊥) → s ≡ trailingZeros 64 m → r ≡ withoutLowest m → size r < size m
+without-fewer m s r p o e h =
+    let l = lowest-at m s p o e in
+    rw (without-at m s r o e h) (let c = size-flip 64 m s p (l .0) in let g = l .1 in omega arith)

@@ -1,5 +1,5 @@
 -- A table raised at the members of a set, one member at a time.
-use mathlib.Core.Path.{_≡_, refl, sym, ap, ap₂, _∙_, subst}
+use mathlib.Core.Path.{_≡_, refl, ap, ap₂, subst}
 use mathlib.Core.Bool.{Bool, true, false, cond}
 use mathlib.Core.List.{List, [], _∷_}
 use Prim.Native.Nat.{ℕ, zero, suc, _+_, _%_, _^_, _≤_, _<_}
@@ -12,9 +12,8 @@ use lib.ListN.{length, getD, set}
 use borrow.Author.Tests.{eq-eqb, ne-eqb}
 use lib.Count.{trailingZeros}
 use Rattle.sets.specs.Sets.{has, flip, size, withoutLowest}
-use Rattle.sets.proofs.Members.{has-none, has-flip, has-flip-other, flip-lt}
-use Rattle.sets.proofs.Size.{size-flip}
-use Rattle.sets.proofs.LowestMember.{lowest-has, without-at}
+use Rattle.sets.proofs.Members.{has-none, has-flip, has-flip-other}
+use Rattle.sets.proofs.LowestMember.{lowest-at, without-at, without-lt, without-fewer}
 use Rattle.shares.specs.Table.{raised}
 
 pub raised-none : (by j : ℕ) (t : List ℕ) → raised by 0 j t ≡ t
@@ -77,12 +76,8 @@ pub record Turn (by rest rest′ : ℕ) (t t′ : List ℕ) : Type 0 where
 pub turn : (by rest k rest′ : ℕ) (t t′ : List ℕ) → rest < 2 ^ 64 → (rest ≡ 0 → ⊥) → k ≡ trailingZeros 64 rest → rest′ ≡ withoutLowest rest
     → t′ ≡ set t k ((getD t k 0 + by) % 2 ^ 32) → Turn by rest rest′ t t′
 turn by rest k rest′ t t′ p q ek er et =
-    let l = lowest-has 64 rest p (omega arith) in
-    let h : k < 64 = subst (λ (i : ℕ). i < 64) (sym ek) (l .0) in
-    let g : has rest k ≡ 1 = ap (λ (i : ℕ). has rest i) ek ∙ l .1 in
-    let r : rest′ ≡ flip rest k = without-at rest k rest′ q ek er in
     record {
-      same = rw (r, et) (raised-member by rest k t g);
-      fits = rw r (flip-lt 64 rest k p h);
-      fewer = rw r (let c = size-flip 64 rest k p h in omega arith);
+      same = rw (without-at rest k rest′ q ek er, et) (raised-member by rest k t (lowest-at rest k p q ek .1));
+      fits = without-lt rest k rest′ p q ek er;
+      fewer = without-fewer rest k rest′ p q ek er;
     }

@@ -1,6 +1,7 @@
 -- `passes::marked::index_all` meets its contract: the index so far is that of the cards so far.
+use Rattle.sets.proofs.Places.{map-at}
 use Rattle.index.specs.Index.{membersOf, membersIn, Index}
-use Rattle.index.proofs.Indexed.{map-at, index-start, index-next, index-end}
+use Rattle.index.proofs.Indexed.{index-start, index-next, index-end}
 use Prim.Native.Nat.{_%_}
 use lib.ListN.{length-map}
 use Prim.Native.Nat.{_≤_, _-_}
@@ -55,7 +56,7 @@ loop-again c = let v = c .before .before in
       index-next (membersIn (s .args .blocks .now) (s .args .cards .now)) i _ _ (l .loop .inv .0) (i - i % 64) (i % 64) (m .members-of .result)
           (omega arith) refl
           (m .members-of .ensures
-          ∙ sym (map-at (membersOf (s .args .blocks .now)) (s .args .cards .now) i (omega (arith, w, l .before .least .ensures))))
+          ∙ sym (map-at (membersOf (s .args .blocks .now)) (s .args .cards .now) i 0 0 (omega (arith, w, l .before .least .ensures))))
           (v .turn .ensures),
       omega (arith, w),
       v .turn .ensures .long ∙ l .loop .inv .2,
