@@ -6,11 +6,12 @@ use mathlib.Core.List.{List, [], _∷_, _++_, map}
 use Prim.Native.Nat.{ℕ, zero, suc, _-_, _^_, _≤_, _<_}
 use native.Mathlib.Omega.{arith}
 use lib.Dec.{leb, ltb, eqb}
-use lib.ListN.{length, getD, replicate, length-append, length-map, length-replicate, length-take, List·getD-append}
+use lib.ListN.{length, getD, length-map, length-take}
 use lib.Pow.{pow-pos, pow-lt}
 use lib.Seq.{take-at}
 use borrow.Author.Tests.{leb-true, ne-eqb}
-use Rattle.sets.proofs.Places.{map-at}
+use Rattle.sets.specs.Places.{padded}
+use Rattle.sets.proofs.Places.{map-at, padded-length, padded-inside}
 use Rattle.sets.specs.Sets.{size, statesFrom}
 use Rattle.rules.specs.Limits.{most-rows, most-dichotomies}
 use Rattle.rules.specs.Listing.{noRow, noRequirement, rowsOf, dichotomiesOf}
@@ -34,18 +35,14 @@ unfoldable twinRow : Row → Row
 unfolding twinGroup
 twinRow r = record { input = record { ones = 0; dashes = 0 }; group = twinGroup (r .group); next = 0; outputs = record { ones = 0; dashes = 0 }; line = 0 }
 
--- a list filled up to w places
-abbrev filled : {A : Type 0} → ℕ → A → List A → List A
-filled w a l = l ++ replicate (w - length l) a
-
 unfoldable pub twin : Listing → Listing
 unfolding twinRow
 twin t = record {
   head = record { states = t .head .states; inputs = 1; outputs = 1; width = t .head .width };
   rows = length (rowsOf t);
-  table = filled most-rows noRow (map twinRow (rowsOf t));
+  table = padded most-rows noRow (map twinRow (rowsOf t));
   dichotomies = length (dichotomiesOf t);
-  asked = filled most-dichotomies noRequirement (dichotomiesOf t);
+  asked = padded most-dichotomies noRequirement (dichotomiesOf t);
 }
 
 -- ---- its requirements are the same
@@ -102,12 +99,6 @@ same-requirements t =
 
 -- ---- it is sound
 
-filled-length : {A : Type 0} (w : ℕ) (a : A) (l : List A) → length l ≤ w → length (filled w a l) ≡ w
-filled-length w a l h = omega (arith, length-append l (replicate (w - length l) a), length-replicate (w - length l) a)
-
-filled-at : {A : Type 0} (w : ℕ) (a : A) (l : List A) (d : A) (k : ℕ) → k < length l → getD (filled w a l) k d ≡ getD l k d
-filled-at w a l d k h = List·getD-append l (replicate (w - length l) a) d k h
-
 twin-group-lt : (n g : ℕ) → 1 ≤ n → g < 2 ^ n → twinGroup g < 2 ^ n
 unfolding twinGroup
 twin-group-lt n zero h p = pow-lt h
@@ -153,10 +144,10 @@ module _ (t : Listing) (f : Fair t) where
           few-bits = w .few-bits;
         };
         few-rows = few-rows;
-        table = filled-length most-rows noRow (map twinRow rows) (omega arith);
-        row = λ k h. rw (filled-at most-rows noRow (map twinRow rows) noRow k (omega arith), map-at twinRow rows k noRow noRow h)
+        table = padded-length most-rows noRow (map twinRow rows) (omega arith);
+        row = λ k h. rw (padded-inside most-rows noRow (map twinRow rows) noRow k (omega arith), map-at twinRow rows k noRow noRow h)
             (twin-row (getD rows k noRow) (f .group k h));
         few-dichotomies = few-ds;
-        asked = filled-length most-dichotomies noRequirement ds few-ds;
-        dichotomy = λ k h. rw (filled-at most-dichotomies noRequirement ds noRequirement k h) (f .dichotomy k h);
+        asked = padded-length most-dichotomies noRequirement ds few-ds;
+        dichotomy = λ k h. rw (padded-inside most-dichotomies noRequirement ds noRequirement k h) (f .dichotomy k h);
       }

@@ -14,9 +14,9 @@ use Rattle.rules.specs.declared.Requirement.{Requirement}
 use Rattle.rules.proofs.Good.{Good, AllGood}
 use Rattle.deck.specs.Deck.{numberOf, requirementOf, drawn}
 use Rattle.sift.specs.Sift.{metCard, notedCard, noted}
-use Rattle.encoding.specs.Encode.{metFirst, padded}
-use Rattle.sets.proofs.Places.{map-at}
-use Rattle.encoding.proofs.Lists.{replicate-at, padded-length, padded-inside, padded-behind}
+use Rattle.encoding.specs.Encode.{metFirst}
+use Rattle.sets.specs.Places.{padded}
+use Rattle.sets.proofs.Places.{map-at, replicate-at, padded-length, padded-inside, padded-behind}
 use Rattle.nextbit.proofs.Live.{leftOf, card-met-left, card-left, card-met}
 use Rattle.encoding.proofs.FirstMet.{first-none, first-next}
 
@@ -177,5 +177,5 @@ shown-all blocks n bits cs by w e s = ext-getD no-bit by (padded w no-bit all) (
         s .inside i q
         ∙ ap (metFirst 0 n bits) (sym (map-at (requirementOf blocks) cs i 0 noRequirement q))
         ∙ sym (map-at (metFirst 0 n bits) (drawn blocks cs) i noRequirement no-bit (omega (arith, length-map cs (requirementOf blocks))))
-        ∙ sym (padded-inside w no-bit all i (omega (arith, many)))
+        ∙ sym (padded-inside w no-bit all no-bit i (omega (arith, many)))
     at i (no q) = s .behind i (omega arith) ∙ sym (padded-behind w no-bit all i (omega (arith, many)))

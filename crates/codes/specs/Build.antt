@@ -10,7 +10,8 @@ use Rattle.rules.specs.declared.Requirement.{Requirement}
 use Rattle.rules.specs.declared.Refusal.the-variants.{Stalled}
 use Rattle.deck.specs.Deck.{numberOf, drawn}
 use Rattle.moves.proofs.Ready.{Ready}
-use Rattle.encoding.specs.Encode.{padded, metFirst}
+use Rattle.sets.specs.Places.{padded}
+use Rattle.encoding.specs.Encode.{metFirst}
 
 -- a run of bits begins: a card for each requirement, numbered from 0, nothing noted, and room for the bits
 pub record Begun (blocks : List ℕ) (n most : ℕ) (cards by bits : List ℕ) : Type 0 where

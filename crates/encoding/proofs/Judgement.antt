@@ -12,9 +12,9 @@ use Rattle.rules.specs.Requirements.{metByCode, requirements}
 use Rattle.rules.specs.Code.{Code, coded, no-bit}
 use Rattle.rules.specs.declared.Listing.{Listing}
 use Rattle.rules.specs.declared.RequirementNumber.{RequirementNumber}
-use Rattle.encoding.specs.Encode.{metFirst, padded, encodedAs, metBy}
-use Rattle.sets.proofs.Places.{map-at}
-use Rattle.encoding.proofs.Lists.{padded-inside}
+use Rattle.encoding.specs.Encode.{metFirst, encodedAs, metBy}
+use Rattle.sets.specs.Places.{padded}
+use Rattle.sets.proofs.Places.{map-at, padded-inside}
 use Rattle.encoding.proofs.FirstMet.{noted-met}
 use Rattle.rules.specs.Limits.{most-asked}
 
@@ -27,7 +27,7 @@ module _ (t : Listing) (c : Code) (r : RequirementNumber) where
   unfolding first
   noted-first h =
       let f = metFirst 0 (t .head .states) (c .bits) in
-      padded-inside most-asked no-bit (map f (requirements t)) (r .0) (omega (arith, length-map (requirements t) f))
+      padded-inside most-asked no-bit (map f (requirements t)) no-bit (r .0) (omega (arith, length-map (requirements t) f))
       ∙ map-at f (requirements t) (r .0) noRequirement no-bit h
 
   -- a requirement of the listing; a bit's number is below that of no bit

@@ -1,4 +1,3 @@
-pub mod Lists
 pub mod FirstMet
 pub mod Judgement
 pub mod Answered

@@ -1,9 +1,10 @@
 -- What the encoder answers for a listing: 01's code, with the bit that first met each requirement.
 use mathlib.Core.Bool.{Bool, cond, not, _&&_}
-use mathlib.Core.List.{List, [], _∷_, _++_, map}
+use mathlib.Core.List.{List, [], _∷_, map}
 use Prim.Native.Nat.{ℕ, _+_, _-_}
 use lib.Dec.{ltb, eqb}
 use lib.ListN.{length, getD, replicate}
+use Rattle.sets.specs.Places.{padded}
 use Rattle.rules.specs.Limits.{most-bits, most-asked}
 use Rattle.rules.specs.Requirements.{met, requirements}
 use Rattle.rules.specs.Code.{Coding, coded, uncoded, coding, no-bit}
@@ -20,10 +21,6 @@ unfoldable pub metFirst : ℕ → ℕ → List ℕ → Requirement → ℕ
 unfolding met
 metFirst k n [] r = no-bit
 metFirst k n (b ∷ bs) r = cond (met n r b) k (metFirst (k + 1) n bs r)
-
--- a list filled up to w places
-abbrev pub padded : ℕ → ℕ → List ℕ → List ℕ
-padded w v l = l ++ replicate (w - length l) v
 
 unfoldable pub noEncoding : Verdict → Encoding
 noEncoding v = record {

@@ -21,9 +21,9 @@ use Rattle.rules.proofs.Built.{mostOf, most-few, was-built}
 use Rattle.rules.proofs.Good.{code-built}
 use Rattle.moves.proofs.Ready.{sound-ready}
 use Rattle.cards.proofs.FairListings.{sound-fair}
-use Rattle.encoding.specs.Encode.{padded, metFirst, encodedAs, encoded}
-use Rattle.sets.proofs.Places.{map-at}
-use Rattle.encoding.proofs.Lists.{padded-length}
+use Rattle.encoding.specs.Encode.{metFirst, encodedAs, encoded}
+use Rattle.sets.specs.Places.{padded}
+use Rattle.sets.proofs.Places.{map-at, padded-length}
 use Rattle.encoding.proofs.FirstMet.{no-bit-unmet}
 use Rattle.encoding.proofs.Answered.{encoded-is}
 use Rattle.nextbit.proofs.Counters.{FewIn, few-counted}

@@ -4,7 +4,7 @@ use lib.Dec.{eqb}
 use lib.ListN.{length-map, List·getD-eq-default, length}
 use Rattle.rules.specs.Code.{no-bit}
 use Rattle.encoding.specs.Encode.{metBy}
-use Rattle.encoding.proofs.Lists.{getD-within}
+use Rattle.sets.proofs.Places.{getD-within}
 use Prim.Native.Nat.{ℕ}
 use mathlib.Core.Path.{_≡_, sym, ap, _∙_}
 use native.Mathlib.Omega.{arith}
