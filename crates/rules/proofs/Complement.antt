@@ -3,7 +3,7 @@ use mathlib.Core.Path.{_≡_, refl, sym, ap, ap₂, _∙_, subst}
 use mathlib.Core.Bool.{Bool, true, false, cond}
 use mathlib.Core.Logic.{_⊎_, inl, inr, ⊎-elim}
 use mathlib.Core.List.{List, [], _∷_}
-use Prim.Native.Nat.{ℕ, zero, suc, _+_, _-_, _<_, _^_}
+use Prim.Native.Nat.{ℕ, zero, suc, _+_, _-_, _≤_, _<_, _^_}
 use native.Mathlib.Omega.{arith}
 use native.Mathlib.Decide.{ℕ-discrete}
 use lib.Dec.{ltb, eqb}
@@ -15,10 +15,11 @@ use Rattle.rules.specs.Requirements.{met, metCount}
 use Rattle.rules.specs.Looks.{looks}
 use Rattle.rules.specs.OneBit.{start, passMoves, kept, passesFrom, passes, counted, complemented, newBit}
 use Rattle.rules.specs.declared.Requirement.{Requirement}
+use Rattle.rules.proofs.Counts.{Apart}
 use Rattle.rules.proofs.Meeting.{Split, met-means, means-met}
 use Rattle.rules.proofs.Runs.{Below}
 use Rattle.rules.proofs.Choice.{pass-fair}
-use Rattle.rules.proofs.Passes.{NoFlipRaises, passes-best}
+use Rattle.rules.proofs.Passes.{NoFlipRaises, passes-best, passes-meet}
 
 -- ---- the complement meets the same
 
@@ -104,6 +105,11 @@ complemented-lt : (n b : ℕ) → b < 2 ^ n → complemented n b < 2 ^ n
 complemented-lt n b p =
     ⊎-elim (λ e. subst (λ (m : ℕ). m < 2 ^ n) (sym (e .0)) p) (λ e. subst (λ (m : ℕ). m < 2 ^ n) (sym (e .0)) (not-lt n b)) (complemented-is n b p)
 
+-- as many are met either way round
+count-complemented : (n : ℕ) (rs : List Requirement) (b : ℕ) → b < 2 ^ n → metCount n rs (complemented n b) ≡ metCount n rs b
+count-complemented n rs b p =
+    ⊎-elim (λ e. ap (metCount n rs) (e .0)) (λ e. ap (metCount n rs) (e .0) ∙ count-turned n rs (everyone n - b) b (λ s h. has-not n b s p h)) (complemented-is n b p)
+
 no-flip-turned : (n : ℕ) (rs : List Requirement) (a b : ℕ) → Turned n a b → NoFlipRaises n rs b → NoFlipRaises n rs a
 no-flip-turned n rs a b t f u p = omega (arith, f u p, count-turned n rs a b t, count-turned n rs (flip a u) (flip b u) (flip-turned n a b u t))
 
@@ -125,3 +131,10 @@ new-bit-zero n rs h p = zero-first n (passes n rs .bit) h (passes-lt (suc (lengt
 pub new-bit-lt : (n : ℕ) (rs : List Requirement) → start rs < 2 ^ n → newBit n rs .bit < 2 ^ n
 unfolding newBit passes
 new-bit-lt n rs p = complemented-lt n (passes n rs .bit) (passes-lt (suc (length rs)) n rs (start rs) p)
+
+-- and it meets one at least of the live requirements, if the blocks of the lowest do not overlap
+pub new-bit-meets : (n : ℕ) (r : Requirement) (rs : List Requirement) → r .second < 2 ^ n → Apart (r .first) (r .second) → 1 ≤ metCount n (r ∷ rs) (newBit n (r ∷ rs) .bit)
+unfolding newBit passes
+new-bit-meets n r rs p apart =
+    let q = passes-lt (suc (length (r ∷ rs))) n (r ∷ rs) (r .second) p in
+    omega (arith, passes-meet n r rs apart, count-complemented n (r ∷ rs) (passes n (r ∷ rs) .bit) q)

@@ -27,4 +27,5 @@ pub mod Most
 pub mod CoverLines
 pub mod Written
 pub mod Good
+pub mod Gains
 pub mod LineNumbers

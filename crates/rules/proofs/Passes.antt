@@ -145,6 +145,26 @@ passes-at-most n r rs apart =
     let g : 1 ≤ metCount n (r ∷ rs) (r .second) = met-first n r rs (r .second) (start-meets n r apart) in
     omega arith
 
+-- no pass that stands meets fewer
+passes-keep : (k n : ℕ) (rs : List Requirement) (b : ℕ) → metCount n rs b ≤ metCount n rs (passesFrom k n rs b .bit)
+unfolding passesFrom
+passes-keep zero n rs b = le-refl (metCount n rs b)
+passes-keep (suc k) n rs b =
+    go (ltb (metCount n rs b) (metCount n rs (kept n rs b (passMoves n rs b)))) refl (passes-keep k n rs (kept n rs b (passMoves n rs b)))
+  where
+    c : ℕ
+    c = kept n rs b (passMoves n rs b)
+
+    go : (t : Bool) → ltb (metCount n rs b) (metCount n rs c) ≡ t → metCount n rs c ≤ metCount n rs (passesFrom k n rs c .bit)
+        → metCount n rs b ≤ metCount n rs (cond t (counted (looks n rs b (passMoves n rs b)) (passesFrom k n rs c)) (record { bit = b; passes = 1; looks = looks n rs b (passMoves n rs b) }) .bit)
+    go true e later = let g = ltb-true (metCount n rs b) (metCount n rs c) e in omega arith
+    go false e later = le-refl (metCount n rs b)
+
+-- a bit starts where it meets the lowest live requirement, so when it is done it meets one at least
+pub passes-meet : (n : ℕ) (r : Requirement) (rs : List Requirement) → Apart (r .first) (r .second) → 1 ≤ metCount n (r ∷ rs) (passes n (r ∷ rs) .bit)
+unfolding passes
+passes-meet n r rs apart = le-trans (met-first n r rs (r .second) (start-meets n r apart)) (passes-keep (suc (length (r ∷ rs))) n (r ∷ rs) (r .second))
+
 -- when a bit is done no single flip raises the number met
 pub passes-best : (n : ℕ) (rs : List Requirement) → NoFlipRaises n rs (passes n rs .bit)
 unfolding passes
