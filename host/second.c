@@ -57,7 +57,7 @@ static int64_t hand_over(const struct text *text, uint8_t *out, size_t out_lengt
     return (int64_t)text->length;
 }
 
-/* "too long; then lines from the top ...; then 6; 7 or 8" */
+/* "too long; then lines from the top ...; then 6; 7", and no 8 (02, request 06) */
 static struct second_refusal encode(const uint8_t *listing, size_t length, struct second_machine *machine,
                                     struct second_requirements *requirements, struct second_code *code)
 {

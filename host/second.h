@@ -26,7 +26,7 @@
    192. */
 #define SECOND_TEXT (SECOND_REQUIREMENTS * 9 + SECOND_STATES * 72 + SECOND_ROWS * 192 + 256)
 
-/* 01, "Refusal numbers". SECOND_FINE stands for no refusal. */
+/* 01, "Refusal numbers". SECOND_FINE stands for no refusal; 8 is unused (02, request 06). */
 enum {
     SECOND_FINE = 0,
     SECOND_BAD_LINE = 1,
@@ -36,7 +36,6 @@ enum {
     SECOND_NEXT = 5,
     SECOND_CONFLICT = 6,
     SECOND_TOO_WIDE = 7,
-    SECOND_STALLED = 8,
     SECOND_UNMET = 9,
     SECOND_NO_ROOM = 10,
     SECOND_BAD_CALL = 11

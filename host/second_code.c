@@ -198,14 +198,14 @@ static unsigned still_live(const struct second_requirements *requirements, const
 }
 
 /* "Width 0: go on until every requirement is met. Width 1..32: stop at that many bits." "With none live, no bit is
-   added." 7 is "width 0, and 32 bits leave something unmet", 8 "a new bit meets nothing that was unmet". */
+   added." 7 is "width 0, and 32 bits leave something unmet". That a new bit meets something that was unmet is not asked
+   here: 02 (request 06) has it shown, and self looks whether each bit does. */
 struct second_refusal second_build_code(const struct second_requirements *requirements, unsigned states,
                                         unsigned width, struct second_code *code)
 {
     static struct second_requirement live[SECOND_REQUIREMENTS];
     struct second_refusal fine = {SECOND_FINE, 0};
     struct second_refusal too_wide = {SECOND_TOO_WIDE, 0};
-    struct second_refusal stalled = {SECOND_STALLED, 0};
     unsigned most = width == 0 ? SECOND_WIDTH : width;
     code->bits = 0;
     code->passes = 0;
@@ -216,10 +216,7 @@ struct second_refusal second_build_code(const struct second_requirements *requir
             return fine;
         if (code->bits == most)
             return width == 0 ? too_wide : fine;
-        uint64_t bit = second_build_bit(live, number, states, &code->passes, &code->looks);
-        if (second_met_number(live, number, bit) == 0)
-            return stalled;
-        code->bit[code->bits] = bit;
+        code->bit[code->bits] = second_build_bit(live, number, states, &code->passes, &code->looks);
         code->bits++;
     }
 }

@@ -16,7 +16,7 @@
  *   out, out_length           where the report is written; the two buffers must not overlap, and neither pointer is null,
  *                             though a length may be 0
  * Answers the number of bytes written, at least 1; the bytes of `out` behind them are as they came. Or a refusal, below 0:
- * minus (number * 100000 + line), and then `out` is as it came. docs/REFUSALS.md has the numbers. */
+ * minus (number * 100000 + line), and then `out` is as it came. docs/REFUSALS.md has the numbers; 8 is unused. */
 extern int64_t tsurmokan_report(const uint8_t *listing, size_t listing_length, uint8_t *out, size_t out_length);
 
 /* The cover of a listing in those codes, in the Berkeley PLA form. As above; refused 9 where a pair or group requirement is unmet. */

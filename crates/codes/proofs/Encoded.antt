@@ -1,6 +1,6 @@
 -- A fair listing is encoded: its cards begin a run of bits, and what the run comes to is 01's coding.
 use mathlib.Core.Path.{_≡_, refl, sym, ap, ap₂, _∙_, subst}
-use mathlib.Core.Bool.{Bool, true, false, cond, not, _&&_, true≢false}
+use mathlib.Core.Bool.{Bool, true, false, cond, not, _&&_}
 use mathlib.Core.List.{List}
 use Prim.Native.Nat.{ℕ, zero, suc, _-_}
 use native.Mathlib.Omega.{arith}
@@ -8,12 +8,12 @@ use lib.Dec.{eqb}
 use lib.ListN.{length, drop, replicate, length-replicate}
 use Rattle.rules.specs.Limits.{most-bits, most-asked}
 use Rattle.rules.specs.Requirements.{requirements}
-use Rattle.rules.specs.Code.{Coding, coded, uncoded, build, coding, wideEnough, unmet, unmetFrom, no-bit}
+use Rattle.rules.specs.Code.{Code, coded, uncoded, build, coding, wideEnough, unmet, unmetFrom, no-bit}
 use Rattle.rules.specs.declared.Requirement.{Requirement}
 use Rattle.rules.specs.declared.Listing.{Listing}
 use Rattle.rules.specs.declared.Encoding.{Encoding}
 use Rattle.rules.specs.declared.Verdict.{Verdict}
-use Rattle.rules.specs.declared.Refusal.the-variants.{TooWide, Stalled}
+use Rattle.rules.specs.declared.Refusal.the-variants.{TooWide}
 use Rattle.rules.proofs.Built.{mostOf, most-few}
 use Rattle.deck.specs.Deck.{drawn}
 use Rattle.moves.proofs.Ready.{Ready}
@@ -24,7 +24,7 @@ use Rattle.fair.proofs.Limits.{fair-grants}
 use Rattle.cards.proofs.Dealing.{numbered-length}
 use Rattle.cards.proofs.FairListings.{few-cards, few-requirements, good-requirements, as-many-cards, drawn-requirements, card-number}
 use Rattle.encoding.specs.Encode.{noEncoding, encodedAs}
-use Rattle.codes.specs.Build.{Begun, Done, Outcome}
+use Rattle.codes.specs.Build.{Begun, Done}
 
 drop-replicate : (k w v : ℕ) → drop k (replicate w v) ≡ replicate (w - k) v
 drop-replicate zero w v = let e : w ≡ w - 0 = omega arith in ap (λ (j : ℕ). replicate j v) e
@@ -61,24 +61,23 @@ module _ (t : Listing) (f : fair t ≡ true) where
   -- ---- what a run came to, for the requirements of t
 
   module _ (m : ℕ) (em : m ≡ mostOf t) (rs : List Requirement) (e : rs ≡ requirements t) where
-    coding-is : (a : Coding) → build m (t .head .states) rs ≡ a → coding t ≡ wideEnough t a
-    unfolding coding
-    coding-is a h = ap₂ (λ (k : ℕ) (x : List Requirement). wideEnough t (build k (t .head .states) x)) (sym em) (sym e) ∙ ap (wideEnough t) h
+    code : Code
+    code = build m (t .head .states) rs
 
-    pub stalls : build m (t .head .states) rs ≡ uncoded Stalled → noEncoding (Verdict.Refused Stalled 0) ≡ encodedAs t (coding t)
-    unfolding encodedAs coding
-    stalls h = sym (ap (encodedAs t) (coding-is (uncoded Stalled) h))
+    coding-is : coding t ≡ wideEnough t code
+    unfolding coding code
+    coding-is = ap₂ (λ (k : ℕ) (x : List Requirement). wideEnough t (build k (t .head .states) x)) (sym em) (sym e)
 
-    module _ {width live passes looks : ℕ} {bits by : List ℕ} (d : Done (t .head .states) m rs (replicate most-bits 0) width live passes looks bits by) where
-      left-unmet : length (unmet t (d .code .bits)) ≡ live
-      unfolding unmet
-      left-unmet = ap (λ (x : List Requirement). length (unmetFrom 0 (t .head .states) (d .code .bits) x)) (sym e) ∙ sym (d .left)
+    module _ {width live passes looks : ℕ} {bits by : List ℕ} (d : Done (t .head .states) (build m (t .head .states) rs) rs (replicate most-bits 0) width live passes looks bits by) where
+      left-unmet : length (unmet t (code .bits)) ≡ live
+      unfolding unmet code
+      left-unmet = ap (λ (x : List Requirement). length (unmetFrom 0 (t .head .states) (code .bits) x)) (sym e) ∙ sym (d .left)
 
-      code-is : (a : Bool) → a ≡ (eqb (t .head .width) 0 && not (eqb live 0)) → coding t ≡ cond a (uncoded TooWide) (coded (d .code))
+      code-is : (a : Bool) → a ≡ (eqb (t .head .width) 0 && not (eqb live 0)) → coding t ≡ cond a (uncoded TooWide) (coded code)
       unfolding coding
       code-is a h =
-          coding-is (coded (d .code)) (d .built)
-          ∙ ap (λ (c : Bool). cond c (uncoded TooWide) (coded (d .code))) (ap (λ (k : ℕ). eqb (t .head .width) 0 && not (eqb k 0)) left-unmet ∙ sym h)
+          coding-is
+          ∙ ap (λ (c : Bool). cond c (uncoded TooWide) (coded code)) (ap (λ (k : ℕ). eqb (t .head .width) 0 && not (eqb k 0)) left-unmet ∙ sym h)
 
       pub too-wide : true ≡ (eqb (t .head .width) 0 && not (eqb live 0)) → noEncoding (Verdict.Refused TooWide 0) ≡ encodedAs t (coding t)
       unfolding encodedAs
@@ -93,16 +92,5 @@ module _ (t : Listing) (f : fair t ≡ true) where
         passes = passes;
         looks = looks;
       } (encodedAs t (coding t))
-      unfolding encodedAs
-      wide-enough asked k h = rw (code-is false h, d .wide, d .shown, drop-replicate (length (d .code .bits)) most-bits 0, d .noted, d .took, d .looked, k, e) refl
-
--- ---- which of the two a run came to
-
-module _ (n m : ℕ) (rs : List Requirement) (bits₀ : List ℕ) (width live passes looks : ℕ) (bits by : List ℕ) where
-  pub it-stalled : (a : Bool) → a ≡ true → Outcome n m rs bits₀ a width live passes looks bits by → build m n rs ≡ uncoded Stalled
-  it-stalled true e h = h
-  it-stalled false e h = absurd (true≢false (sym e))
-
-  pub it-is-done : (a : Bool) → a ≡ false → Outcome n m rs bits₀ a width live passes looks bits by → Done n m rs bits₀ width live passes looks bits by
-  it-is-done true e h = absurd (true≢false e)
-  it-is-done false e h = h
+      unfolding encodedAs code
+      wide-enough asked k h = rw (code-is false h, d .wide, d .shown, drop-replicate (length (code .bits)) most-bits 0, d .noted, d .took, d .looked, k, e) refl

@@ -9,9 +9,8 @@ use lib.ListN.{length, take, drop, set, length-map, length-take, length-append, 
 use lib.Seq.{drop-drop, take-append-seam, take-suc-set, drop-set-lt, take-length, length-take-le}
 use Rattle.rules.specs.Limits.{most-bits, most-asked}
 use Rattle.rules.specs.OneBit.{Bit, newBit}
-use Rattle.rules.specs.Code.{Coding, coded, uncoded, build, unmetBy, no-bit}
+use Rattle.rules.specs.Code.{Code, build, unmetBy, no-bit}
 use Rattle.rules.specs.declared.Requirement.{Requirement}
-use Rattle.rules.specs.declared.Refusal.the-variants.{Stalled}
 use Rattle.rules.proofs.Good.{start-lt}
 use Rattle.rules.proofs.Complement.{new-bit-lt}
 use Rattle.deck.specs.Deck.{requirementOf, drawn}
@@ -22,7 +21,7 @@ use Rattle.nextbit.proofs.NextBit.{next-bit, new-bit-few}
 use Rattle.nextbit.proofs.Live.{leftOf, left-all, left-count, left-good, left-next, live-count, live-drawn}
 use Rattle.codes.specs.Build.{Begun, Done}
 use Rattle.codes.proofs.Notes.{Shown, shown-none, shown-next, shown-all, noted-length}
-use Rattle.codes.proofs.Building.{joinedTo, build-last, build-done, build-more, build-stalled}
+use Rattle.codes.proofs.Building.{codeAs, joinedTo, joined-nothing, build-last, build-done, build-more}
 
 empty : (l : List ℕ) → length l ≡ 0 → l ≡ []
 empty [] e = refl
@@ -45,10 +44,6 @@ pub record Running (blocks : List ℕ) (n most : ℕ) (cs bits₀ cards by bits 
   pub few-looks : looks ≤ width * 2 ^ 44
   -- the rest of the rule from here gives the whole code
   pub rest : joinedTo (take width bits) passes looks (build (most - width) n (drawn blocks (leftOf blocks n (take width bits) cs))) ≡ build most n (drawn blocks cs)
-
-joined-nothing : (g : Coding) → joinedTo [] 0 0 g ≡ g
-joined-nothing (coded c) = simp zero-add
-joined-nothing (uncoded r) = refl
 
 module _ (blocks : List ℕ) (n most : ℕ) (cs by₀ bits₀ : List ℕ) (begun : Begun blocks n most cs by₀ bits₀) where
   pub running-start : Running blocks n most cs bits₀ cs by₀ bits₀ 0 (length cs) 0 0
@@ -140,10 +135,6 @@ module _ (blocks : List ℕ) (n most : ℕ) (cs by₀ bits₀ : List ℕ) (begun
           let e : suc (most - (width + 1)) ≡ most - width = omega arith in
           ap₂ (λ (k : ℕ) (l : List ℕ). joinedTo (take width bits) passes looks (build k n (drawn blocks l))) e (run .front) ∙ run .rest
 
-      pub running-stalls : width < most → (live ≡ 0 → ⊥) → rest-of ≡ live → build most n (drawn blocks cs) ≡ uncoded Stalled
-      running-stalls h some e =
-          sym (here h) ∙ build-stalled (take width bits) passes looks (most - (width + 1)) n rl (omega (arith, rl-length)) (leaves ∙ e ∙ sym rl-length)
-
       -- the bits and the cards that they leave, one bit on
       longer : width < most → take (width + 1) (set bits width b) ≡ take width bits ++ (b ∷ [])
       longer h = ap (λ (k : ℕ). take k (set bits width b)) (add-one width) ∙ take-suc-set bits width b (omega (arith, run .long, begun .width))
@@ -168,11 +159,11 @@ module _ (blocks : List ℕ) (n most : ℕ) (cs by₀ bits₀ : List ℕ) (begun
           ap₂ (λ (k : ℕ) (x : List ℕ). noted blocks b k x by) (bits-length h) (sym (run .front)) ∙ sym (added .notes) in
           subst (Shown blocks n (take width bits ++ (b ∷ [])) cs) e s
 
-      rest-on : width < most → (live ≡ 0 → ⊥) → (rest-of ≡ live → ⊥)
+      rest-on : width < most → (live ≡ 0 → ⊥)
           → joinedTo (take width bits ++ (b ∷ [])) (passes + p) (looks + l) (build (most - (width + 1)) n (drawn blocks (leftOf blocks n (take width bits ++ (b ∷ [])) cs))) ≡ build most n (drawn blocks cs)
       unfolding rl
-      rest-on h some ne =
-          let m = build-more (take width bits) passes looks (most - (width + 1)) n rl (omega (arith, rl-length)) (λ e. ne (sym leaves ∙ e ∙ rl-length)) in
+      rest-on h some =
+          let m = build-more (take width bits) passes looks (most - (width + 1)) n rl (omega (arith, rl-length)) in
           let d : drawn blocks (leftOf blocks n (take width bits ++ (b ∷ [])) cs) ≡ unmetBy n b rl =
           ap (drawn blocks) (sym leaves-cards) ∙ live-drawn blocks n b fits (take live cards) (live-ready .good) in
           let e : joinedTo (take width bits ++ (b ∷ [])) (passes + p) (looks + l) (build (most - (width + 1)) n (unmetBy n b rl))
@@ -182,9 +173,9 @@ module _ (blocks : List ℕ) (n most : ℕ) (cs by₀ bits₀ : List ℕ) (begun
           ap (λ (x : List Requirement). joinedTo (take width bits ++ (b ∷ [])) (passes + p) (looks + l) (build (most - (width + 1)) n x)) d ∙ e ∙ sym m ∙ here h
 
       -- one bit on
-      pub running-more : length prefix ≡ length (take live cards) → width < most → (live ≡ 0 → ⊥) → (rest-of ≡ live → ⊥)
+      pub running-more : length prefix ≡ length (take live cards) → width < most → (live ≡ 0 → ⊥)
           → Running blocks n most cs bits₀ (prefix ++ drop live cards) by₁ (set bits width b) (width + 1) rest-of (passes + p) (looks + l)
-      running-more same h some ne =
+      running-more same h some =
           record {
             within = omega arith;
             long = length-set bits width b ∙ run .long;
@@ -206,33 +197,31 @@ module _ (blocks : List ℕ) (n most : ℕ) (cs by₀ bits₀ : List ℕ) (begun
             few-looks = omega (arith, run .few-looks, few-more .1);
             rest =
                 ap (λ (x : List ℕ). joinedTo x (passes + p) (looks + l) (build (most - (width + 1)) n (drawn blocks (leftOf blocks n x cs)))) (longer h)
-                ∙ rest-on h some ne;
+                ∙ rest-on h some;
           }
 
     -- the run ends: no bit is left, or nothing is live
     running-done : (k : ℕ) → joinedTo (take width bits) passes looks (build k n (drawn blocks (leftOf blocks n (take width bits) cs))) ≡ build most n (drawn blocks cs)
-        → joinedTo (take width bits) passes looks (build k n (drawn blocks (leftOf blocks n (take width bits) cs))) ≡ coded (record { bits = take width bits; passes = passes; looks = looks })
-        → Done n most (drawn blocks cs) bits₀ width live passes looks bits by
+        → joinedTo (take width bits) passes looks (build k n (drawn blocks (leftOf blocks n (take width bits) cs))) ≡ codeAs (take width bits) passes looks
+        → Done n (build most n (drawn blocks cs)) (drawn blocks cs) bits₀ width live passes looks bits by
     running-done k e d =
         let w : length (take width bits) ≡ width = length-take-le width bits (omega (arith, run .long, run .within, begun .width)) in
-        record {
-          code = record { bits = take width bits; passes = passes; looks = looks };
-          built = sym e ∙ d;
+        subst (λ (c : Code). Done n c (drawn blocks cs) bits₀ width live passes looks bits by) (sym d ∙ e) (record {
           wide = sym w;
           left = run .count ∙ left-count blocks n (take width bits) cs;
           took = refl;
           looked = refl;
           shown = sym (take-append-drop width bits) ∙ ap (λ (x : List ℕ). take width bits ++ x) (run .behind ∙ ap (λ (k : ℕ). drop k bits₀) (sym w));
           noted = shown-all blocks n (take width bits) cs by most-asked (run .places) (run .shown);
-        }
+        })
 
-    pub running-end : most ≤ width → Done n most (drawn blocks cs) bits₀ width live passes looks bits by
+    pub running-end : most ≤ width → Done n (build most n (drawn blocks cs)) (drawn blocks cs) bits₀ width live passes looks bits by
     running-end h =
         let e : most - width ≡ 0 = omega arith in
         running-done (most - width) (run .rest)
         (ap (λ (k : ℕ). joinedTo (take width bits) passes looks (build k n (drawn blocks (leftOf blocks n (take width bits) cs)))) e ∙ build-last (take width bits) passes looks n (drawn blocks (leftOf blocks n (take width bits) cs)))
 
-    pub running-none : live ≡ 0 → Done n most (drawn blocks cs) bits₀ width live passes looks bits by
+    pub running-none : live ≡ 0 → Done n (build most n (drawn blocks cs)) (drawn blocks cs) bits₀ width live passes looks bits by
     running-none h =
         let e : drawn blocks (leftOf blocks n (take width bits) cs) ≡ [] = ap (drawn blocks) (empty (leftOf blocks n (take width bits) cs) (sym (run .count) ∙ h)) in
         running-done (most - width) (run .rest)

@@ -1,13 +1,13 @@
 // The code of a listing: bits until the width is reached or nothing is live.
 ghost use mathlib.Core.Path.{_≡_};
 ghost use mathlib.Core.Bool.{true};
-ghost use Rattle.rules.specs.Code.{coding};
+ghost use Rattle.rules.specs.Code.{build, coding};
 ghost use Rattle.fair.specs.Fair.{fair};
 ghost use Rattle.blocks.specs.BlockTable.{Laid};
 ghost use Rattle.cards.specs.Cards.{cardsOf, numbered};
 ghost use Rattle.deck.specs.Deck.{drawn};
 ghost use Rattle.encoding.specs.Encode.{encodedAs, encoded};
-ghost use Rattle.codes.specs.Build.{Begun, Outcome};
+ghost use Rattle.codes.specs.Build.{Begun, Done};
 
 // What a run of bits came to.
 struct Coded {
@@ -15,10 +15,9 @@ struct Coded {
     live: usize,
     passes: u64,
     looks: u64,
-    stalled: bool,
 }
 
-// Bits for the cards until `most` are built, or nothing is live, or a bit meets nothing.
+// Bits for the cards until `most` are built, or nothing is live.
 fn build_bits(
     blocks: &[u64],
     cards: &mut [u32],
@@ -28,7 +27,7 @@ fn build_bits(
     most: usize,
 ) -> Coded
     requires { ⌜ Begun (now blocks) n most (now cards) (now by) (now bits) ⌝ }
-    ensures { λ r. ⌜ Outcome n most (drawn (now (blocks .entry)) (now (cards .entry))) (now (bits .entry)) (r .stalled) (r .width) (r .live) (r .passes) (r .looks) (now (bits .exit)) (now (by .exit)) ⌝ }
+    ensures { λ r. ⌜ Done n (build most n (drawn (now (blocks .entry)) (now (cards .entry)))) (drawn (now (blocks .entry)) (now (cards .entry))) (now (bits .entry)) (r .width) (r .live) (r .passes) (r .looks) (now (bits .exit)) (now (by .exit)) ⌝ }
 {
     let mut width: usize = 0;
     let mut live = cards.len();
@@ -41,19 +40,9 @@ fn build_bits(
                 live,
                 passes,
                 looks,
-                stalled: false,
             };
         }
         let a = nextbit::add_bit(blocks, &mut cards[..live], by, n, (width % 256) as u8);
-        if a.left == live {
-            return Coded {
-                width,
-                live,
-                passes,
-                looks,
-                stalled: true,
-            };
-        }
         bits[width] = a.bit;
         width += 1;
         live = a.left;
@@ -65,7 +54,6 @@ fn build_bits(
         live,
         passes,
         looks,
-        stalled: false,
     }
 }
 
@@ -80,9 +68,6 @@ fn encode_fair(t: rules::Listing, blocks: &[u64], cards: &mut [u32]) -> rules::E
     let width = t.head.width;
     let most = encoding::most_of(width);
     let c = build_bits(blocks, cards, &mut by, &mut bits, t.head.states, most);
-    if c.stalled {
-        return encoding::uncoded_as(rules::Refusal::Stalled);
-    }
     if encoding::falls_short(width, c.live) {
         return encoding::uncoded_as(rules::Refusal::TooWide);
     }

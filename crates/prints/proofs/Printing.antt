@@ -11,7 +11,7 @@ use Rattle.rules.specs.Text.{decimal}
 use Rattle.rules.specs.Refusals.{number}
 use Rattle.rules.specs.Answers.{Reply, says, refuses, printed}
 use Rattle.rules.specs.declared.Refusal.{Refusal}
-use Rattle.rules.specs.declared.Refusal.the-variants.{BadLine, Limit, Place, EmptyGroup, NextState, Conflict, TooWide, Stalled, Unmet, NoRoom, BadCall}
+use Rattle.rules.specs.declared.Refusal.the-variants.{BadLine, Limit, Place, EmptyGroup, NextState, Conflict, TooWide, Unmet, NoRoom, BadCall}
 use Rattle.pen.specs.Pen.{Wrote}
 use Rattle.pen.proofs.Decimal.{decimal-length}
 use Rattle.pen.proofs.Laws.{wrote-length, wrote-all}
@@ -55,7 +55,6 @@ number-few EmptyGroup = omega arith
 number-few NextState = omega arith
 number-few Conflict = omega arith
 number-few TooWide = omega arith
-number-few Stalled = omega arith
 number-few Unmet = omega arith
 number-few NoRoom = omega arith
 number-few BadCall = omega arith

@@ -18,7 +18,7 @@ use Rattle.rules.specs.declared.Refusal.{Refusal}
 use Rattle.rules.proofs.Sound.{Sound}
 use Rattle.rules.proofs.Most.{most-requirements}
 use Rattle.rules.proofs.Built.{mostOf, most-few, was-built}
-use Rattle.rules.proofs.Good.{code-built}
+use Rattle.rules.proofs.SoundCode.{code-built}
 use Rattle.moves.proofs.Ready.{sound-ready}
 use Rattle.cards.proofs.FairListings.{sound-fair}
 use Rattle.encoding.specs.Encode.{metFirst, encodedAs, encoded}
@@ -39,7 +39,7 @@ module _ (t : Listing) (s : Sound t) where
     narrow = omega (arith, code-built t s c e .few, few-bits)
 
     counters : FewIn (mostOf t) c
-    counters = few-counted (mostOf t) (t .head .states) (requirements t) c (sound-ready t s) (was-built t c e)
+    counters = subst (FewIn (mostOf t)) (was-built t c e) (few-counted (mostOf t) (t .head .states) (requirements t) (sound-ready t s))
 
     noted-unmet : (k : ℕ) → k < length (requirements t) → getD (encodedAs t (coded c) .by) k 0 ≡ no-bit ↔ metByCode (t .head .states) (c .bits) (getD (requirements t) k noRequirement) ≡ false
     unfolding encodedAs

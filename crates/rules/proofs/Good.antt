@@ -1,4 +1,4 @@
--- A requirement of n states: two blocks of those states that share none. Every requirement of a sound listing is one, and so a code's bits are sets of states.
+-- A requirement of n states: two blocks of those states that share none. Every requirement of a sound listing is one.
 use mathlib.Core.Path.{_≡_, refl, sym, ap, ap₂, _∙_, subst}
 use mathlib.Core.Bool.{Bool, true, false, cond}
 use mathlib.Core.List.{List, [], _∷_, _++_, map}
@@ -6,23 +6,21 @@ use Prim.Native.Nat.{ℕ, zero, suc, _+_, _^_, _≤_, _<_, min}
 use native.Mathlib.Decide.{ℕ-discrete}
 use native.Mathlib.Omega.{arith}
 use lib.Bits.{bitAnd}
-use lib.ListN.{length, getD, take, replicate}
+use lib.ListN.{length, getD, take}
 use lib.Pow.{pow-pos, pow-lt}
 use Rattle.sets.specs.Sets.{has, only, statesFrom}
 use Rattle.sets.proofs.Members.{has-lt, has-and, has-none, has-other}
 use Rattle.rules.specs.Listing.{noRow, noRequirement, rowsOf, dichotomiesOf}
 use Rattle.rules.specs.Requirements.{asks, pairs, outside, met, groupAsks, groups, pairsAndGroups, requirements}
 use Rattle.rules.specs.OneBit.{start}
-use Rattle.rules.specs.Code.{Code, coded, unmetBy, coding, codeOf}
+use Rattle.rules.specs.Code.{unmetBy}
 use Rattle.rules.specs.declared.Requirement.{Requirement}
 use Rattle.rules.specs.declared.Row.{Row}
 use Rattle.rules.specs.declared.Listing.{Listing}
 use Rattle.rules.proofs.Counts.{Apart}
 use Rattle.rules.proofs.Runs.{Fresh, Once, Below}
-use Rattle.rules.proofs.Complement.{new-bit-lt, new-bit-zero}
 use Rattle.rules.proofs.Asked.{outside-not, outside-member, newGroup, groups-step}
 use Rattle.rules.proofs.Unmet.{liveAfter, unmetIn, live-unmet, left-met, left-unmet}
-use Rattle.rules.proofs.Built.{Built, built, mostOf, was-built}
 use Rattle.rules.proofs.SoundLines.{SoundBlocks}
 use Rattle.rules.proofs.Sound.{Sound, rows-length, row-of}
 
@@ -157,31 +155,3 @@ requirements-good t s =
     let gs = groups-good n [] (rowsOf t) (λ k h. row-of t s k (omega (arith, rows-length t s)) .group) in
     let ds = good-take n (t .dichotomies) (t .asked) (λ j h. blocks-good n _ (s .dichotomy j h)) in
     good-append n (pairsAndGroups t) (dichotomiesOf t) (good-append n (pairs (statesFrom 0 n)) (groups n [] (rowsOf t)) ps gs) ds
-
--- ---- the code of a sound listing
-
-zeros : (bits : List ℕ) (s : ℕ) → ((j : ℕ) → j < length bits → has (getD bits j 0) s ≡ 0) → codeOf bits s ≡ replicate (length bits) 0
-zeros [] s h = refl
-zeros (b ∷ bs) s h = ap₂ {C = List ℕ} (λ x l. x ∷ l) (h 0 (omega arith)) (zeros bs s (λ j q. h (suc j) (omega arith)))
-
-module _ (t : Listing) (s : Sound t) (c : Code) (e : coding t ≡ coded c) where
-  pub code-built : Built (mostOf t) (t .head .states) (requirements t) (c .bits)
-  code-built = built _ _ _ c (was-built t c e)
-
-  -- what the bits before bit j leave live: bit j is built from it
-  left : ℕ → List Requirement
-  left j = unmetIn (t .head .states) (take j (c .bits)) (requirements t)
-
-  starts : (j : ℕ) → start (left j) < 2 ^ t .head .states
-  unfolding left
-  starts j = start-lt (t .head .states) (left j) (good-left (t .head .states) (take j (c .bits)) (requirements t) (requirements-good t s))
-
-  -- each bit is a set of the states
-  pub bits-lt : (j : ℕ) → j < length (c .bits) → getD (c .bits) j 0 < 2 ^ t .head .states
-  unfolding left
-  bits-lt j h = rw (code-built .next j h) (new-bit-lt (t .head .states) (left j) (starts j))
-
-  -- state 0's code is all zeros
-  pub code-zeros : codeOf (c .bits) 0 ≡ replicate (length (c .bits)) 0
-  unfolding left
-  code-zeros = zeros (c .bits) 0 (λ j h. rw (code-built .next j h) (new-bit-zero (t .head .states) (left j) (s .head .some-states) (starts j)))

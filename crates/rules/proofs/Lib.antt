@@ -15,7 +15,6 @@ pub mod FourLooks
 pub mod TrialRuns
 pub mod Asked
 pub mod Unmet
-pub mod Built
 pub mod Faces
 pub mod Fields
 pub mod Fires
@@ -28,4 +27,6 @@ pub mod CoverLines
 pub mod Written
 pub mod Good
 pub mod Gains
+pub mod Built
+pub mod SoundCode
 pub mod LineNumbers

@@ -130,8 +130,8 @@ passes-few (suc k) n rs b =
     go false e later = omega (arith, met-most n rs b)
 
 -- a bit starts where it meets the lowest live requirement
-pub start-meets : (n : ℕ) (r : Requirement) → Apart (r .first) (r .second) → met n r (r .second) ≡ true
-start-meets n r apart = means-met n r (r .second) (inl (record { zeros = λ s p q. omega (arith, apart s); ones = λ s p q. q }))
+pub start-meets : (n : ℕ) (r : Requirement) (rs : List Requirement) → Apart (r .first) (r .second) → met n r (start (r ∷ rs)) ≡ true
+start-meets n r rs apart = means-met n r (start (r ∷ rs)) (inl (record { zeros = λ s p q. omega (arith, apart s); ones = λ s p q. q }))
 
 met-first : (n : ℕ) (r : Requirement) (rs : List Requirement) (b : ℕ) → met n r b ≡ true → 1 ≤ metCount n (r ∷ rs) b
 unfolding metCount
@@ -142,7 +142,7 @@ pub passes-at-most : (n : ℕ) (r : Requirement) (rs : List Requirement) → Apa
 unfolding passes
 passes-at-most n r rs apart =
     let h = passes-few (suc (length (r ∷ rs))) n (r ∷ rs) (r .second) in
-    let g : 1 ≤ metCount n (r ∷ rs) (r .second) = met-first n r rs (r .second) (start-meets n r apart) in
+    let g : 1 ≤ metCount n (r ∷ rs) (r .second) = met-first n r rs (r .second) (start-meets n r rs apart) in
     omega arith
 
 -- no pass that stands meets fewer
@@ -163,7 +163,7 @@ passes-keep (suc k) n rs b =
 -- a bit starts where it meets the lowest live requirement, so when it is done it meets one at least
 pub passes-meet : (n : ℕ) (r : Requirement) (rs : List Requirement) → Apart (r .first) (r .second) → 1 ≤ metCount n (r ∷ rs) (passes n (r ∷ rs) .bit)
 unfolding passes
-passes-meet n r rs apart = le-trans (met-first n r rs (r .second) (start-meets n r apart)) (passes-keep (suc (length (r ∷ rs))) n (r ∷ rs) (r .second))
+passes-meet n r rs apart = le-trans (met-first n r rs (r .second) (start-meets n r rs apart)) (passes-keep (suc (length (r ∷ rs))) n (r ∷ rs) (r .second))
 
 -- when a bit is done no single flip raises the number met
 pub passes-best : (n : ℕ) (rs : List Requirement) → NoFlipRaises n rs (passes n rs .bit)

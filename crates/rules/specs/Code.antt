@@ -1,4 +1,4 @@
--- 01, "One bit" and "Refusal numbers" 7 and 8: the code, bit by bit, and the requirements that it leaves unmet.
+-- 01, "One bit" and refusal 7: the code, bit by bit, and the requirements that it leaves unmet.
 use mathlib.Core.Bool.{true, false, _&&_, not, cond}
 use mathlib.Core.List.{List, [], _∷_, map}
 use Prim.Native.Nat.{ℕ, zero, suc, _+_}
@@ -11,7 +11,7 @@ use Rattle.rules.specs.OneBit.{Bit, newBit}
 use Rattle.rules.specs.declared.Requirement.{Requirement}
 use Rattle.rules.specs.declared.Listing.{Listing}
 use Rattle.rules.specs.declared.Refusal.{Refusal}
-use Rattle.rules.specs.declared.Refusal.the-variants.{TooWide, Stalled}
+use Rattle.rules.specs.declared.Refusal.the-variants.{TooWide}
 
 -- of the requirements, those that the bit b does not meet: they stay live
 unfoldable pub unmetBy : ℕ → ℕ → List Requirement → List Requirement
@@ -25,28 +25,19 @@ pub record Code : Type 0 where
   pub passes : ℕ
   pub looks : ℕ
 
--- what coding answers: a code, or the refusal
-pub data Coding : Type 0 where
-  coded : Code → Coding
-  uncoded : Refusal → Coding
-
 abbrev pub noCode : Code
 noCode = record { bits = []; passes = 0; looks = 0 }
 
 -- a bit in front of those that follow it
-abbrev pub joined : Bit → Coding → Coding
-joined b (coded c) = coded (record { bits = b .bit ∷ c .bits; passes = b .passes + c .passes; looks = b .looks + c .looks })
-joined b (uncoded r) = uncoded r
+abbrev pub joined : Bit → Code → Code
+joined b c = record { bits = b .bit ∷ c .bits; passes = b .passes + c .passes; looks = b .looks + c .looks }
 
--- At most k bits more. With none live, no bit is added; a new bit that meets nothing that was unmet is 8.
-unfoldable pub build : ℕ → ℕ → List Requirement → Coding
+-- At most k bits more, each for the requirements that are then live. With none live, no bit is added.
+unfoldable pub build : ℕ → ℕ → List Requirement → Code
 unfolding newBit unmetBy
-build zero n rs = coded noCode
-build (suc k) n [] = coded noCode
-build (suc k) n (r ∷ rs) =
-    let b : Bit = newBit n (r ∷ rs) in
-    let live : List Requirement = unmetBy n (b .bit) (r ∷ rs) in
-    elim (eqb (length live) (length (r ∷ rs))) [ true ↦ uncoded Stalled | false ↦ joined b (build k n live) ]
+build zero n rs = noCode
+build (suc k) n [] = noCode
+build (suc k) n (r ∷ rs) = let b : Bit = newBit n (r ∷ rs) in joined b (build k n (unmetBy n (b .bit) (r ∷ rs)))
 
 -- the numbers of the requirements that no bit meets, ascending; the first of the list has the number k
 unfoldable pub unmetFrom : ℕ → ℕ → List ℕ → List Requirement → List ℕ
@@ -58,11 +49,15 @@ unfoldable pub unmet : Listing → List ℕ → List ℕ
 unfolding unmetFrom requirements
 unmet t bits = unmetFrom 0 (t .head .states) bits (requirements t)
 
+-- what coding answers: a code, or the refusal
+pub data Coding : Type 0 where
+  coded : Code → Coding
+  uncoded : Refusal → Coding
+
 -- width 0, and 32 bits leave something unmet: 7
-abbrev pub wideEnough : Listing → Coding → Coding
+abbrev pub wideEnough : Listing → Code → Coding
 unfolding unmet
-wideEnough t (coded c) = cond (eqb (t .head .width) 0 && not (eqb (length (unmet t (c .bits))) 0)) (uncoded TooWide) (coded c)
-wideEnough t (uncoded r) = uncoded r
+wideEnough t c = cond (eqb (t .head .width) 0 && not (eqb (length (unmet t (c .bits))) 0)) (uncoded TooWide) (coded c)
 
 -- width 0: go on until every requirement is met; width 1..32: stop at that many bits
 unfoldable pub coding : Listing → Coding

@@ -1,8 +1,8 @@
--- 01, "Refusal numbers": the number of each refusal, and what a C host gets for one.
+-- 01, "Refusal numbers": the number of each refusal, and what a C host gets for one. 8 is unused: no bit can meet nothing that was unmet (02, request 06).
 use Prim.Native.Nat.{ℕ, _+_, _*_}
 use lib.IntN.{ℤ, pos, negℤ}
 use Rattle.rules.specs.declared.Refusal.{Refusal}
-use Rattle.rules.specs.declared.Refusal.the-variants.{BadLine, Limit, Place, EmptyGroup, NextState, Conflict, TooWide, Stalled, Unmet, NoRoom, BadCall}
+use Rattle.rules.specs.declared.Refusal.the-variants.{BadLine, Limit, Place, EmptyGroup, NextState, Conflict, TooWide, Unmet, NoRoom, BadCall}
 
 abbrev pub number : Refusal → ℕ
 number BadLine = 1
@@ -12,7 +12,6 @@ number EmptyGroup = 4
 number NextState = 5
 number Conflict = 6
 number TooWide = 7
-number Stalled = 8
 number Unmet = 9
 number NoRoom = 10
 number BadCall = 11

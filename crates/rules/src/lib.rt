@@ -68,7 +68,7 @@ pub struct Listing {
     pub asked: [Requirement; MOST_DICHOTOMIES],
 }
 
-// Why a call is refused, in the order of 01's table.
+// Why a call is refused, in the order of 01's table. Its number 8 is unused.
 pub enum Refusal {
     BadLine,
     Limit,
@@ -77,7 +77,6 @@ pub enum Refusal {
     NextState,
     Conflict,
     TooWide,
-    Stalled,
     Unmet,
     NoRoom,
     BadCall,
@@ -96,7 +95,6 @@ impl Refusal {
             Refusal::NextState => 5,
             Refusal::Conflict => 6,
             Refusal::TooWide => 7,
-            Refusal::Stalled => 8,
             Refusal::Unmet => 9,
             Refusal::NoRoom => 10,
             Refusal::BadCall => 11,

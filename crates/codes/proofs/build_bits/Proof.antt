@@ -1,7 +1,7 @@
 -- `codes::build_bits` meets its contract: the rest of the rule from here gives the whole code.
 use lib.ListN.{length-take, length-set}
 use Rattle.nextbit.specs.NextBit.{AddedBit}
-use Rattle.codes.proofs.Running.{Running, running-start, running-stalls, running-more, running-end, running-none, sum-fits}
+use Rattle.codes.proofs.Running.{Running, running-start, running-more, running-end, running-none, sum-fits}
 use Prim.Native.Nat.{ℕ, _<_, _-_, _+_, _%_, _^_}
 use mathlib.Core.Path.{_≡_, refl, sym, ap, _∙_, subst}
 use native.Mathlib.Omega.{arith}
@@ -63,20 +63,6 @@ cast-add-bit c = record { fits = omega arith }
 add-bit-requires : tie.Need-add-bit-requires Inv-loop μ-loop
 add-bit-requires c κs = search needs
 
-same-length-4 : tie.Need-same-length-4 Inv-loop μ-loop
-same-length-4 c = search needs
-
-same-length-5 : tie.Need-same-length-5 Inv-loop μ-loop
-same-length-5 c = search needs
-
-same-length-6 : tie.Need-same-length-6 Inv-loop μ-loop
-same-length-6 c = search needs
-
-returns-2 : tie.Need-returns-2 Inv-loop μ-loop
-returns-2 c = let a = c .before .before .before .before .before .before in
-    let l = a .before .before .before .before .before in let s = l .before .before .before .before .before in
-    running-stalls _ _ _ _ _ _ (s .pre) _ _ _ _ _ _ _ (l .loop .inv .0) _ _ _ _ _ _ (added a) (a .before .before .before .before .loop-test .taken) (a .before .before .before .if1 .left) (c .if2 .taken)
-
 mul-bits : tie.Need-mul-bits Inv-loop μ-loop
 mul-bits c = search needs
 
@@ -87,30 +73,30 @@ add-width : tie.Need-add-width Inv-loop μ-loop
 add-width c = search needs
 
 add-passes : tie.Need-add-passes Inv-loop μ-loop
-add-passes c = let a = c .before .before .before .before .before .before .before in record { fits = fits a .0 }
+add-passes c = let a = c .before .before .before .before .before in record { fits = fits a .0 }
 
 add-looks : tie.Need-add-looks Inv-loop μ-loop
-add-looks c = let a = c .before .before .before .before .before .before .before .before in record { fits = fits a .1 }
+add-looks c = let a = c .before .before .before .before .before .before in record { fits = fits a .1 }
 
 loop-less : tie.Need-loop-less Inv-loop μ-loop
 loop-less c = search needs
 
 loop-again : tie.Need-loop-again Inv-loop μ-loop
-loop-again c = let a = c .before .before .before .before .before .before .before .before in
+loop-again c = let a = c .before .before .before .before .before .before in
     let l = a .before .before .before .before .before in let s = l .before .before .before .before .before in
-    (running-more _ _ _ _ _ _ (s .pre) _ _ _ _ _ _ _ (l .loop .inv .0) _ _ _ _ _ _ (added a) (a .add-bit .kept .1 .0) (a .before .before .before .before .loop-test .taken) (a .before .before .before .if1 .left) (c .before .before .if2 .left), a .add-bit .kept .1 .1 .0 ∙ l .loop .inv .1, length-set (l .loop .bits) (l .loop .width) (a .add-bit .result .bit) ∙ l .loop .inv .2)
+    (running-more _ _ _ _ _ _ (s .pre) _ _ _ _ _ _ _ (l .loop .inv .0) _ _ _ _ _ _ (added a) (a .add-bit .kept .1 .0) (a .before .before .before .before .loop-test .taken) (a .before .before .before .if1 .left), a .add-bit .kept .1 .1 .0 ∙ l .loop .inv .1, length-set (l .loop .bits) (l .loop .width) (a .add-bit .result .bit) ∙ l .loop .inv .2)
 
-same-length-7 : tie.Need-same-length-7 Inv-loop μ-loop
-same-length-7 c = search needs
+same-length-4 : tie.Need-same-length-4 Inv-loop μ-loop
+same-length-4 c = search needs
 
-same-length-8 : tie.Need-same-length-8 Inv-loop μ-loop
-same-length-8 c = search needs
+same-length-5 : tie.Need-same-length-5 Inv-loop μ-loop
+same-length-5 c = search needs
 
-same-length-9 : tie.Need-same-length-9 Inv-loop μ-loop
-same-length-9 c = search needs
+same-length-6 : tie.Need-same-length-6 Inv-loop μ-loop
+same-length-6 c = search needs
 
-returns-3 : tie.Need-returns-3 Inv-loop μ-loop
-returns-3 c = let l = c .before in let s = l .before .before .before .before .before in
+returns-2 : tie.Need-returns-2 Inv-loop μ-loop
+returns-2 c = let l = c .before in let s = l .before .before .before .before .before in
     running-end _ _ _ _ _ _ (s .pre) _ _ _ _ _ _ _ (l .loop .inv .0) (c .loop-test .left)
 
 pub build-bits-spec : {M : Type 1} → statement M
@@ -128,10 +114,6 @@ build-bits-spec =
     slice-aggregate-add-bit
     cast-add-bit
     add-bit-requires
-    same-length-4
-    same-length-5
-    same-length-6
-    returns-2
     mul-bits
     slice-write-bits
     add-width
@@ -139,7 +121,7 @@ build-bits-spec =
     add-looks
     loop-less
     loop-again
-    same-length-7
-    same-length-8
-    same-length-9
-    returns-3)
+    same-length-4
+    same-length-5
+    same-length-6
+    returns-2)
