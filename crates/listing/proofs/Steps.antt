@@ -9,9 +9,9 @@ use Rattle.rules.specs.Listing.{Step, goes, ends, stops, lineStep, ended, unend
 use Rattle.rules.specs.declared.Listing.{Listing}
 use Rattle.rules.specs.declared.Reading.{Reading}
 use Rattle.pieces.proofs.Laws.{part, Cut, split-some}
-use Rattle.says.specs.declared.Said.{Said}
-use Rattle.says.specs.Says.{stepOf, lineSays}
-use Rattle.says.proofs.Steps.{says-step}
+use Rattle.listing.specs.declared.says.Said.{Said}
+use Rattle.listing.specs.Says.{stepOf, lineSays}
+use Rattle.listing.proofs.Saying.{says-step}
 
 -- behind a line that does x, the rest of the lines
 abbrev pub behind : Step → ℕ → Listing → List (List ℕ) → Reading

@@ -1,4 +1,6 @@
 // The reader of a whole listing: any bytes give the listing that they say, or the refusal and its line.
+mod says;
+
 ghost use mathlib.Core.Path.{_≡_};
 ghost use mathlib.Core.Bool.{cond};
 ghost use Rattle.rules.specs.Text.{linesOf};

@@ -11,9 +11,9 @@ use Rattle.rules.specs.Listing.{blank, readLines}
 use Rattle.rules.specs.declared.Listing.{Listing}
 use Rattle.rules.specs.declared.Reading.{Reading}
 use Rattle.pieces.proofs.Laws.{Cut, cut-of}
-use Rattle.says.specs.declared.Said.{Said}
-use Rattle.says.specs.Says.{stepOf}
-use Rattle.says.proofs.Room.{said-room}
+use Rattle.listing.specs.declared.says.Said.{Said}
+use Rattle.listing.specs.Says.{stepOf}
+use Rattle.listing.proofs.Room.{said-room}
 use Rattle.listing.proofs.Ends.{ended-is}
 use Rattle.listing.proofs.Steps.{behind, read-line, read-last}
 use Rattle.listing.proofs.read_lines.Statement.{statement}

@@ -2,9 +2,9 @@
 use mathlib.Core.Path.{_∙_}
 use borrow.Author.Needs.{needs}
 use borrow.Author.Tests.{eq-eqb, ne-eqb}
-use Rattle.says.specs.Says.{lineSays}
-use Rattle.says.proofs.line_said.Statement.{statement}
-use Rattle.says.proofs.line_said.Tie as tie
+use Rattle.listing.specs.Says.{lineSays}
+use Rattle.listing.proofs.says.line_said.Statement.{statement}
+use Rattle.listing.proofs.says.line_said.Tie as tie
 
 mark-of-requires : tie.Need-mark-of-requires
 mark-of-requires c κs = search needs

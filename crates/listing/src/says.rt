@@ -1,7 +1,7 @@
 // What one line does to a listing, said without the listing.
 ghost use mathlib.Core.Path.{_≡_};
 ghost use Rattle.rules.specs.Lines.{headLine, rowLine, dichotomyLine, endLine};
-ghost use Rattle.says.specs.Says.{headReason, rowReason, dichotomyReason, endReason, headSays, rowSays, dichotomySays, endSays, firstSays, laterSays, lineSays};
+ghost use Rattle.listing.specs.Says.{headReason, rowReason, dichotomyReason, endReason, headSays, rowSays, dichotomySays, endSays, firstSays, laterSays, lineSays};
 use rules::DichotomyLine;
 use rules::EndLine;
 use rules::Head;

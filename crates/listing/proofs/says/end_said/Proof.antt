@@ -1,8 +1,8 @@
 -- `says::end_said` meets its contract.
 use mathlib.Core.Path.{sym, _∙_}
 use borrow.Author.Needs.{needs}
-use Rattle.says.proofs.end_said.Statement.{statement}
-use Rattle.says.proofs.end_said.Tie as tie
+use Rattle.listing.proofs.says.end_said.Statement.{statement}
+use Rattle.listing.proofs.says.end_said.Tie as tie
 
 end-line-requires : tie.Need-end-line-requires
 end-line-requires c κs = search needs

@@ -1,9 +1,9 @@
 -- `says::later_said` meets its contract.
 use mathlib.Core.Path.{_∙_}
 use borrow.Author.Needs.{needs}
-use Rattle.says.specs.Says.{laterSays}
-use Rattle.says.proofs.later_said.Statement.{statement}
-use Rattle.says.proofs.later_said.Tie as tie
+use Rattle.listing.specs.Says.{laterSays}
+use Rattle.listing.proofs.says.later_said.Statement.{statement}
+use Rattle.listing.proofs.says.later_said.Tie as tie
 
 enum-told : tie.Need-enum-told
 enum-told c = search needs

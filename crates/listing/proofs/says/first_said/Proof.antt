@@ -1,9 +1,9 @@
 -- `says::first_said` meets its contract.
 use mathlib.Core.Path.{_∙_}
 use borrow.Author.Needs.{needs}
-use Rattle.says.specs.Says.{firstSays}
-use Rattle.says.proofs.first_said.Statement.{statement}
-use Rattle.says.proofs.first_said.Tie as tie
+use Rattle.listing.specs.Says.{firstSays}
+use Rattle.listing.proofs.says.first_said.Statement.{statement}
+use Rattle.listing.proofs.says.first_said.Tie as tie
 
 enum-told : tie.Need-enum-told
 enum-told c = search needs

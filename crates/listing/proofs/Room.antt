@@ -21,8 +21,8 @@ use Rattle.rules.specs.declared.HeadLine.{HeadLine}
 use Rattle.rules.specs.declared.RowLine.{RowLine}
 use Rattle.rules.specs.declared.DichotomyLine.{DichotomyLine}
 use Rattle.rules.specs.declared.EndLine.{EndLine}
-use Rattle.says.specs.declared.Said.{Said}
-use Rattle.says.specs.Says.{headSays, rowSays, dichotomySays, endSays, firstSays, laterSays, lineSays}
+use Rattle.listing.specs.declared.says.Said.{Said}
+use Rattle.listing.specs.Says.{headSays, rowSays, dichotomySays, endSays, firstSays, laterSays, lineSays}
 
 -- a line that is read stands behind fewer rows, or dichotomies, than a listing has
 refused-row : (b : Bool) {r : Row} → cond b (RowLine.Refused Limit) (RowLine.Refused BadLine) ≡ RowLine.Read r → ⊥

@@ -1,8 +1,8 @@
 -- `says::row_said` meets its contract.
 use mathlib.Core.Path.{sym, _∙_}
 use borrow.Author.Needs.{needs}
-use Rattle.says.proofs.row_said.Statement.{statement}
-use Rattle.says.proofs.row_said.Tie as tie
+use Rattle.listing.proofs.says.row_said.Statement.{statement}
+use Rattle.listing.proofs.says.row_said.Tie as tie
 
 row-line-requires : tie.Need-row-line-requires
 row-line-requires c κs = search needs

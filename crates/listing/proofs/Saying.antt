@@ -14,8 +14,8 @@ use Rattle.rules.specs.declared.HeadLine.{HeadLine}
 use Rattle.rules.specs.declared.RowLine.{RowLine}
 use Rattle.rules.specs.declared.DichotomyLine.{DichotomyLine}
 use Rattle.rules.specs.declared.EndLine.{EndLine}
-use Rattle.says.specs.declared.Said.{Said}
-use Rattle.says.specs.Says.{stepOf, headSays, rowSays, dichotomySays, endSays, firstSays, laterSays, lineSays}
+use Rattle.listing.specs.declared.says.Said.{Said}
+use Rattle.listing.specs.Says.{stepOf, headSays, rowSays, dichotomySays, endSays, firstSays, laterSays, lineSays}
 
 head-step : (x : HeadLine) (t : Listing) → stepOf (headSays x) t ≡ onHead x t
 head-step (HeadLine.Read h) t = refl

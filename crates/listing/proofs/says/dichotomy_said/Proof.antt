@@ -1,8 +1,8 @@
 -- `says::dichotomy_said` meets its contract.
 use mathlib.Core.Path.{sym, _∙_}
 use borrow.Author.Needs.{needs}
-use Rattle.says.proofs.dichotomy_said.Statement.{statement}
-use Rattle.says.proofs.dichotomy_said.Tie as tie
+use Rattle.listing.proofs.says.dichotomy_said.Statement.{statement}
+use Rattle.listing.proofs.says.dichotomy_said.Tie as tie
 
 dichotomy-line-requires : tie.Need-dichotomy-line-requires
 dichotomy-line-requires c κs = search needs

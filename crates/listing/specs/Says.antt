@@ -16,7 +16,7 @@ use Rattle.rules.specs.declared.HeadLine.{HeadLine}
 use Rattle.rules.specs.declared.RowLine.{RowLine}
 use Rattle.rules.specs.declared.DichotomyLine.{DichotomyLine}
 use Rattle.rules.specs.declared.EndLine.{EndLine}
-use Rattle.says.specs.declared.Said.{Said}
+use Rattle.listing.specs.declared.says.Said.{Said}
 
 -- what was said, done to a listing
 abbrev pub stepOf : Said → Listing → Step

@@ -1,8 +1,8 @@
 -- `says::head_said` meets its contract.
 use mathlib.Core.Path.{sym, _∙_}
 use borrow.Author.Needs.{needs}
-use Rattle.says.proofs.head_said.Statement.{statement}
-use Rattle.says.proofs.head_said.Tie as tie
+use Rattle.listing.proofs.says.head_said.Statement.{statement}
+use Rattle.listing.proofs.says.head_said.Tie as tie
 
 head-line-requires : tie.Need-head-line-requires
 head-line-requires c κs = search needs
