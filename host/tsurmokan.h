@@ -40,8 +40,7 @@ struct tsurmokan_trial {
     uint64_t bit;    /* the value of each state now, as a mask */
     uint64_t moved;  /* the states that have moved, as a mask */
     uint64_t looks;  /* the looks so far */
-    uint64_t blocks[2 * TSURMOKAN_TRIAL_MOST]; /* from here on the library's own */
-    uint32_t cards[TSURMOKAN_TRIAL_MOST];
+    uint64_t families[3 * TSURMOKAN_TRIAL_MOST]; /* from here on the library's own */
     uint32_t table[64];
 };
 

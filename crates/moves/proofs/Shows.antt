@@ -34,7 +34,7 @@ raised-from by m j (v ∷ vs) (suc k) h =
     raised-from by m (suc j) vs k (omega arith) ∙ ap (λ (i : ℕ). cond (eqb (has m i) 1) ((getD vs k 0 + by) % 2 ^ 32) (getD vs k 0)) e
 
 module _ (m : ℕ) (t : List ℕ) (k : ℕ) (hk : k < length t) where
-  raised-at : (by : ℕ) → getD (raised by m 0 t) k 0 ≡ cond (eqb (has m k) 1) ((getD t k 0 + by) % 2 ^ 32) (getD t k 0)
+  pub raised-at : (by : ℕ) → getD (raised by m 0 t) k 0 ≡ cond (eqb (has m k) 1) ((getD t k 0 + by) % 2 ^ 32) (getD t k 0)
   raised-at by =
       let e : 0 + k ≡ k = omega arith in
       raised-from by m 0 t k hk ∙ ap (λ (i : ℕ). cond (eqb (has m i) 1) ((getD t k 0 + by) % 2 ^ 32) (getD t k 0)) e
@@ -65,12 +65,12 @@ record Room (d v : ℕ) : Type 0 where
 met-le : (n : ℕ) (r : Requirement) (b : ℕ) → isMet n r b ≤ 1
 met-le n r b = either (λ (d : ℕ). d ≤ 1) (met n r b) 1 0 (λ _. omega arith) (λ _. omega arith)
 
-length-weighed : (made broken f g b : ℕ) (t : List ℕ) → length (weighed made broken f g b t) ≡ length t
+pub length-weighed : (made broken f g b : ℕ) (t : List ℕ) → length (weighed made broken f g b t) ≡ length t
 unfolding weighed
 length-weighed made broken f g b t =
     length-raised made _ 0 (raised broken (breaks (wrong f g b) (wrong g f b)) 0 t) ∙ length-raised broken _ 0 t
 
-length-stepped : (f g b a s : ℕ) (t : List ℕ) → length (stepped f g b a s t) ≡ length t
+pub length-stepped : (f g b a s : ℕ) (t : List ℕ) → length (stepped f g b a s t) ≡ length t
 unfolding stepped
 length-stepped f g b a s t =
     either (λ (u : List ℕ). length u ≡ length t) (lookMask f g b a s) (shared f g a (unshared f g b t)) t

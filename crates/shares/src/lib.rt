@@ -25,7 +25,7 @@ fn wrong_of(z: u64, o: u64, b: u64) -> u64
 }
 
 // `by` added at state k, if the table has it.
-fn raise_one(t: &mut [u32], k: usize, by: u32)
+pub fn raise_one(t: &mut [u32], k: usize, by: u32)
     ensures { λ r. ⌜ now (t .exit) ≡ set (now (t .entry)) k ((getD (now (t .entry)) k 0 + by) % 2 ^ 32) ⌝ }
 {
     if k < t.len() {
@@ -34,7 +34,7 @@ fn raise_one(t: &mut [u32], k: usize, by: u32)
 }
 
 // `by` added at each member of m. Each turn takes the lowest member out, so the members alone are touched.
-fn raise(t: &mut [u32], m: u64, by: u32)
+pub fn raise(t: &mut [u32], m: u64, by: u32)
     ensures { λ r. ⌜ now (t .exit) ≡ raised by m 0 (now (t .entry)) ⌝ }
 {
     let mut rest = m;

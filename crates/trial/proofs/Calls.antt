@@ -23,7 +23,6 @@ use Rattle.rules.proofs.TrialRuns.{Moved, calls-moved, gain-true}
 use Rattle.trial.specs.declared.Trial.{Trial}
 use Rattle.trial.specs.Record.{taken, turnedDown, none, shown, startOf, askedOf, moveOf, gainOf}
 use Rattle.calls.proofs.Movable.{no-state}
-use Rattle.trial.proofs.Fair.{asked-few}
 use Rattle.trial.proofs.Shown.{shownBy, Reached, by-start, by-move, reached-fair, move-shown, gain-shown}
 
 -- ---- refusals
@@ -113,6 +112,6 @@ module _ (n b : ℕ) (fs gs : List ℕ) (cs : List StateNumber) where
 
   pub looks-most : last .looks ≤ 4 * first .count
   looks-most =
-      let good = reached-fair first (by-start n b fs gs) .good in
-      let each = four-a-piece (first .states) (askedOf first) good (first .bit) moves (last-moved .once) (last-moved .below) in
-      omega (arith, looks-true, each, asked-few first)
+      let fair = reached-fair first (by-start n b fs gs) in
+      let each = four-a-piece (first .states) (askedOf first) (fair .good) (first .bit) moves (last-moved .once) (last-moved .below) in
+      omega (arith, looks-true, each, fair .asked)

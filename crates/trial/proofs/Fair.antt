@@ -1,5 +1,5 @@
 -- What every record that a start and any moves gave has: it is fair, and a fair record shows the true gains.
-use mathlib.Core.Path.{_≡_, sym, subst}
+use mathlib.Core.Path.{_≡_, sym, ap, subst}
 use mathlib.Core.Bool.{Bool, true, _&&_}
 use mathlib.Core.List.{List, [], _∷_}
 use Prim.Native.Nat.{ℕ, _+_, _*_, _^_, _≤_, _<_}
@@ -7,7 +7,7 @@ use native.Mathlib.Nat.{mod-eq-of-lt}
 use native.Mathlib.Omega.{arith}
 use lib.Bits.{bitAnd}
 use lib.Dec.{eqb}
-use lib.ListN.{length, take, length-take, length-map, length-replicate}
+use lib.ListN.{length, length-replicate}
 use lib.Pow.{pow-pos}
 use borrow.Author.Tests.{ltb-true, eqb-true}
 use Rattle.sets.specs.Sets.{flip, size}
@@ -20,7 +20,7 @@ use Rattle.rules.specs.Trial.{within, paired, allSound}
 use Rattle.rules.specs.declared.Requirement.{Requirement}
 use Rattle.rules.proofs.Good.{AllGood, apart-and}
 use Rattle.shares.specs.Table.{level}
-use Rattle.deck.specs.Deck.{requirementOf}
+use Rattle.families.specs.Families.{requirementsIn}
 use Rattle.moves.specs.Moves.{moved, looked}
 use Rattle.moves.proofs.Lists.{looked-le}
 use Rattle.moves.proofs.Ready.{Ready}
@@ -29,11 +29,12 @@ use Rattle.trial.specs.declared.Trial.{Trial}
 use Rattle.trial.specs.Record.{none, shown, askedOf, nextOf}
 use Rattle.calls.proofs.Startable.{Startable}
 use Rattle.calls.proofs.Movable.{Movable}
-use Rattle.trial.proofs.Listed.{listed}
+use Rattle.trial.proofs.Listed.{paired-length, listed}
 
 pub record Fair (t : Trial) : Type 0 where
   pub few-states : t .states ≤ most-states
   pub few : t .count ≤ most-trial
+  pub asked : length (askedOf t) ≤ t .count
   pub good : AllGood (t .states) (askedOf t)
   pub bit : t .bit < 2 ^ t .states
   pub moved : t .moved < 2 ^ t .states
@@ -43,10 +44,11 @@ pub record Fair (t : Trial) : Type 0 where
 -- ---- the empty record
 
 pub none-fair : Fair none
-unfolding none size
+unfolding none size requirementsIn
 none-fair = record {
   few-states = omega arith;
   few = omega arith;
+  asked = omega arith;
   good = tt;
   bit = omega arith;
   moved = omega arith;
@@ -57,7 +59,7 @@ none-fair = record {
 -- ---- a start
 
 -- blocks that are sound make good requirements
-sound-good : (n : ℕ) (rs : List Requirement) → allSound n rs ≡ true → AllGood n rs
+pub sound-good : (n : ℕ) (rs : List Requirement) → allSound n rs ≡ true → AllGood n rs
 unfolding allSound
 sound-good n [] e = tt
 sound-good n (r ∷ rs) e =
@@ -73,15 +75,12 @@ sound-good n (r ∷ rs) e =
       sound-good n rs (and-second (two && apart) (allSound n rs) e),
     )
 
--- a record lists at most as many requirements as it counts
-pub asked-few : (t : Trial) → length (askedOf t) ≤ t .count
-asked-few t = omega (arith, length-map (take (t .count) (t .cards)) (requirementOf (t .blocks)), length-take (t .count) (t .cards))
-
 pub shown-fair : (n b : ℕ) (fs gs : List ℕ) → Startable n b fs gs → Fair (shown n b fs gs)
 unfolding shown size
 shown-fair n b fs gs h = record {
   few-states = h .few-states;
   few = h .few;
+  asked = few-asked;
   good = good;
   bit = h .bit;
   moved = pow-pos n;
@@ -89,11 +88,20 @@ shown-fair n b fs gs h = record {
   shows = shows-filled n (askedOf (shown n b fs gs)) ready b (h .bit);
 }
   where
+    given : AllGood n (paired fs gs)
+    given = sound-good n (paired fs gs) (h .sound)
+
+    lists : askedOf (shown n b fs gs) ≡ paired fs gs
+    lists = listed n fs gs (h .like) (h .few) given
+
+    few-asked : length (askedOf (shown n b fs gs)) ≤ length fs
+    few-asked = omega (arith, ap length lists, paired-length fs gs (h .like))
+
     good : AllGood n (askedOf (shown n b fs gs))
-    good = subst (AllGood n) (sym (listed fs gs (h .like) (h .few))) (sound-good n (paired fs gs) (h .sound))
+    good = subst (AllGood n) (sym lists) given
 
     ready : Ready n (askedOf (shown n b fs gs))
-    ready = record { some = h .some-states; fits = omega (arith, h .few-states); few = omega (arith, h .few, asked-few (shown n b fs gs)); good = good }
+    ready = record { some = h .some-states; fits = omega (arith, h .few-states); few = omega (arith, h .few, few-asked); good = good }
 
 -- ---- a move
 
@@ -108,7 +116,7 @@ module _ (t : Trial) (s : ℕ) (fair : Fair t) (h : Movable (t .states) (t .coun
         fair .few-states,
         size-few (t .states) (t .moved) (fair .moved),
         looked-le (askedOf t) (t .bit) (flip (t .bit) s) s,
-        asked-few t,
+        fair .asked,
       )
 
   pub next-looks : nextOf t s .looks ≡ t .looks + looked (askedOf t) (t .bit) (flip (t .bit) s) s
@@ -119,7 +127,7 @@ module _ (t : Trial) (s : ℕ) (fair : Fair t) (h : Movable (t .states) (t .coun
   fair-ready = record {
     some = omega (arith, h .state);
     fits = omega (arith, fair .few-states);
-    few = omega (arith, fair .few, asked-few t);
+    few = omega (arith, fair .few, fair .asked);
     good = fair .good;
   }
 
@@ -133,7 +141,7 @@ module _ (t : Trial) (s : ℕ) (fair : Fair t) (h : Movable (t .states) (t .coun
         h .unmoved-yet,
         size-flip (t .states) (t .moved) s (fair .moved) (h .state),
         looked-le (askedOf t) (t .bit) (flip (t .bit) s) s,
-        asked-few t,
+        fair .asked,
       )
 
   pub next-fair : Fair (nextOf t s)
@@ -141,6 +149,7 @@ module _ (t : Trial) (s : ℕ) (fair : Fair t) (h : Movable (t .states) (t .coun
   next-fair = record {
     few-states = fair .few-states;
     few = fair .few;
+    asked = fair .asked;
     good = fair .good;
     bit = flip-lt (t .states) (t .bit) s (fair .bit) (h .state);
     moved = flip-lt (t .states) (t .moved) s (fair .moved) (h .state);

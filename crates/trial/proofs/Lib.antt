@@ -1,5 +1,4 @@
 pub mod Stored
-pub mod Deck
 pub mod Made
 pub mod Levels
 pub mod Outside

@@ -2,49 +2,40 @@
 use mathlib.Core.Path.{_≡_, sym, ap, ap₂, _∙_}
 use mathlib.Core.Bool.{Bool, true, false}
 use mathlib.Core.List.{List}
-use Prim.Native.Nat.{ℕ, _+_, _%_, _^_, _≤_, _<_}
+use Prim.Native.Nat.{ℕ, _+_, _*_, _%_, _^_, _≤_, _<_}
+use native.Mathlib.Nat.{add-mod-mod}
 use native.Mathlib.Omega.{arith}
 use lib.IntN.{pos, subℕ}
 use lib.ListN.{length, take, getD, replicate}
-use lib.Seq.{sets}
 use borrow.Author.Tests.{lt-ltb, le-ltb}
 use Rattle.sets.specs.Sets.{flip}
 use Rattle.rules.specs.Trial.{startable}
 use Rattle.rules.specs.declared.StateNumber.{StateNumber}
 use Rattle.shares.specs.Table.{level}
-use Rattle.deck.specs.Deck.{drawn}
+use Rattle.families.specs.Families.{requirementsIn}
 use Rattle.moves.specs.Moves.{filled, moved, looked}
 use Rattle.trial.specs.declared.Trial.{Trial}
 use Rattle.trial.specs.declared.Answer.{Answer}
-use Rattle.trial.specs.Record.{taken, turnedDown, deck, blocksOf, none, shown, startOf, askedOf, nextOf, moveOf, gainOf}
+use Rattle.trial.specs.Record.{taken, turnedDown, stored, none, shown, startOf, askedOf, nextOf, moveOf, gainOf}
 use Rattle.calls.specs.Movable.{movable}
 use Rattle.calls.proofs.Startable.{startable-has}
 use Rattle.calls.proofs.Movable.{movable-has}
 
--- two lists stored in a table of empty blocks
-pub blocks-made : (fs gs none one both : List ℕ) → none ≡ replicate 512 0 → one ≡ sets none 0 fs → both ≡ sets one 256 gs → both ≡ blocksOf fs gs
-unfolding blocksOf
-blocks-made fs gs none one both p q r = r ∙ ap (λ (t : List ℕ). sets t 256 gs) (q ∙ ap (λ (t : List ℕ). sets t 0 fs) p)
+-- a record that nothing has moved in, with the families and the table that code made
+abbrev begun : ℕ → ℕ → ℕ → List ℕ → List ℕ → Trial
+begun n k b families table = record { states = n; count = k; bit = b; moved = 0; looks = 0; families = families; table = table }
 
--- a record that nothing has moved in, with the blocks, the cards and the table that code made
-abbrev begun : ℕ → ℕ → ℕ → List ℕ → List ℕ → List ℕ → Trial
-begun n k b blocks cards table = record { states = n; count = k; bit = b; moved = 0; looks = 0; blocks = blocks; cards = cards; table = table }
-
-pub none-made : (blocks : List ℕ) → blocks ≡ replicate 512 0 → begun 0 0 0 blocks (replicate 256 0) (replicate 64 level) ≡ none
-unfolding none
-none-made blocks e = ap (λ (bs : List ℕ). begun 0 0 0 bs (replicate 256 0) (replicate 64 level)) e
-
-pub shown-made : (n b : ℕ) (fs gs blocks cards table : List ℕ) → blocks ≡ blocksOf fs gs → cards ≡ deck
-    → table ≡ filled (drawn blocks (take (length fs) cards)) b (replicate 64 level) → begun n (length fs) b blocks cards table ≡ shown n b fs gs
+pub shown-made : (n b : ℕ) (fs gs families table : List ℕ) → families ≡ stored fs gs
+    → table ≡ filled (requirementsIn (take (3 * length fs) families)) b (replicate 64 level) → begun n (length fs) b families table ≡ shown n b fs gs
 unfolding shown
-shown-made n b fs gs blocks cards table p q r =
-    ap (begun n (length fs) b blocks cards) r
-    ∙ ap₂ (λ (bs cs : List ℕ). begun n (length fs) b bs cs (filled (drawn bs (take (length fs) cs)) b (replicate 64 level))) p q
+shown-made n b fs gs families table p q =
+    ap (begun n (length fs) b families) q
+    ∙ ap (λ (l : List ℕ). begun n (length fs) b l (filled (requirementsIn (take (3 * length fs) l)) b (replicate 64 level))) p
 
 -- a start, by what the test of it said
 module _ (n b : ℕ) (fs gs : List ℕ) (said : Bool) (tested : said ≡ startable n b fs gs) where
-  pub start-room : said ≡ true → (length fs ≤ 256) × (length gs ≤ 256)
-  start-room e = let h = startable-has n b fs gs (sym tested ∙ e) in (h .few, omega (arith, h .few, h .like))
+  pub start-room : said ≡ true → (length fs ≤ 256) × (length fs ≡ length gs)
+  start-room e = let h = startable-has n b fs gs (sym tested ∙ e) in (h .few, h .like)
 
   pub start-taken : (t : Trial) (r : Answer) → said ≡ true → t ≡ shown n b fs gs → r ≡ taken t → r ≡ startOf n b fs gs
   unfolding startOf
@@ -64,16 +55,18 @@ module _ (t : Trial) (s : ℕ) where
     bit = a;
     moved = m;
     looks = l;
-    blocks = t .blocks;
-    cards = t .cards;
+    families = t .families;
     table = table;
   }
 
   pub next-made : (a m l k : ℕ) (table : List ℕ) → a ≡ flip (t .bit) s → m ≡ flip (t .moved) s
-      → k ≡ looked (askedOf t) (t .bit) a s → table ≡ moved (askedOf t) (t .bit) a s (t .table) → l ≡ (t .looks + k) % 2 ^ 64
+      → k ≡ looked (askedOf t) (t .bit) (flip (t .bit) s) s % 2 ^ 64 → table ≡ moved (askedOf t) (t .bit) (flip (t .bit) s) s (t .table) → l ≡ (t .looks + k) % 2 ^ 64
       → after a m l table ≡ nextOf t s
   unfolding nextOf
-  next-made a m l k table p q e f g = cc
+  next-made a m l k table p q e f g =
+      let n : ℕ = looked (askedOf t) (t .bit) (flip (t .bit) s) s in
+      let z : l ≡ (t .looks + n) % 2 ^ 64 = g ∙ ap (λ (j : ℕ). (t .looks + j) % 2 ^ 64) e ∙ add-mod-mod (t .looks) n (2 ^ 64) in
+      ap₂ (λ (x y : ℕ). after x y l table) p q ∙ ap₂ (λ (x : ℕ) (y : List ℕ). after (flip (t .bit) s) (flip (t .moved) s) x y) z f
 
 -- a move, by what the test of it said
 module _ (t : Trial) (s : StateNumber) (said : Bool) (tested : said ≡ movable (t .states) (t .count) (t .moved) (s .0)) where

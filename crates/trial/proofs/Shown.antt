@@ -16,6 +16,7 @@ use Rattle.rules.specs.Trial.{paired, startable}
 use Rattle.rules.specs.declared.Requirement.{Requirement}
 use Rattle.rules.specs.declared.StateNumber.{StateNumber}
 use Rattle.shares.specs.Table.{level}
+use Rattle.families.specs.Families.{requirementsIn}
 use Rattle.moves.proofs.Looks.{looked-looks}
 use Rattle.trial.specs.declared.Trial.{Trial}
 use Rattle.trial.specs.declared.Answer.{Answer}
@@ -27,7 +28,7 @@ use Rattle.trial.proofs.Levels.{same-less}
 use Rattle.trial.proofs.Made.{gain-none, gain-read}
 use Rattle.trial.proofs.Outside.{gain-out}
 use Rattle.trial.proofs.Listed.{listed}
-use Rattle.trial.proofs.Fair.{Fair, none-fair, shown-fair, next-fair, next-looks}
+use Rattle.trial.proofs.Fair.{Fair, sound-good, none-fair, shown-fair, next-fair, next-looks}
 
 -- the record of the rules that a record shows
 abbrev pub shownBy : Trial → rules.Trial
@@ -67,7 +68,7 @@ reached-fair t (by-move u s r) = move-fair u s (reached-fair u r)
 -- ---- a start is the rules' start
 
 none-shown : shownBy none ≡ rules.empty
-unfolding none
+unfolding none requirementsIn
 none-shown = refl
 
 pub start-shown : (n b : ℕ) (fs gs : List ℕ) → shownIn (startOf n b fs gs) ≡ rules.begin n b fs gs
@@ -79,7 +80,7 @@ start-shown n b fs gs = go (startable n b fs gs) refl
         ≡ cond c (rules.taken (record { states = n; asked = paired fs gs; bit = b; moved = 0; looks = 0 })) (rules.turnedDown rules.empty)
     go true e =
         let h = startable-has n b fs gs e in
-        ap (λ (rs : List Requirement). rules.taken (record { states = n; asked = rs; bit = b; moved = 0; looks = 0 })) (listed fs gs (h .like) (h .few))
+        ap (λ (rs : List Requirement). rules.taken (record { states = n; asked = rs; bit = b; moved = 0; looks = 0 })) (listed n fs gs (h .like) (h .few) (sound-good n (paired fs gs) (h .sound)))
     go false e = ap rules.turnedDown none-shown
 
 -- ---- a move is the rules' move

@@ -1,7 +1,8 @@
 -- The trial record as code holds it, and what a start and a move make of it, field by field, on any record at all.
 use mathlib.Core.Bool.{cond}
 use mathlib.Core.List.{List, [], _∷_}
-use Prim.Native.Nat.{ℕ, zero, suc, _+_, _*_, _%_, _^_}
+use Prim.Native.Nat.{ℕ, _+_, _*_, _%_, _^_}
+use lib.Bits.{bitOr}
 use lib.Dec.{ltb}
 use lib.ListN.{length, take, replicate, getD}
 use lib.Seq.{sets}
@@ -14,7 +15,7 @@ use Rattle.rules.specs.declared.StateNumber.{StateNumber}
 use Rattle.rules.specs.declared.Verdict.{Verdict}
 use Rattle.rules.specs.declared.Refusal.the-variants.{BadCall}
 use Rattle.shares.specs.Table.{level}
-use Rattle.deck.specs.Deck.{drawn}
+use Rattle.families.specs.Families.{requirementsIn}
 use Rattle.moves.specs.Moves.{filled, moved, looked}
 use Rattle.calls.specs.Movable.{movable}
 use Rattle.trial.specs.declared.Trial.{Trial}
@@ -30,48 +31,36 @@ turnedDown t = record { verdict = Verdict.Refused BadCall 0; trial = t }
 
 -- ---- a start
 
--- requirement i has the first block i and the second block 256 + i
-abbrev pub cardOf : ℕ → ℕ
-cardOf i = i + i * 16384 + (most-trial + i) * 8388608
+-- each requirement is a family of its own
+unfoldable pub familiesOf : List ℕ → List ℕ → List ℕ
+familiesOf [] gs = []
+familiesOf (f ∷ fs) [] = []
+familiesOf (f ∷ fs) (g ∷ gs) = bitOr f g ∷ (g ∷ (0 ∷ familiesOf fs gs))
 
--- k cards, the first of them i
-unfoldable pub cardsFrom : ℕ → ℕ → List ℕ
-cardsFrom i zero = []
-cardsFrom i (suc k) = cardOf i ∷ cardsFrom (suc i) k
+-- the words of the most requirements, three for each
+abbrev pub words : ℕ
+words = 3 * most-trial
 
-unfoldable pub deck : List ℕ
-unfolding cardsFrom
-deck = cardsFrom 0 most-trial
-
--- the first blocks from place 0 on, and the second from place 256 on
-unfoldable pub blocksOf : List ℕ → List ℕ → List ℕ
-blocksOf fs gs = sets (sets (replicate 512 0) 0 fs) most-trial gs
+-- the families in the first places
+unfoldable pub stored : List ℕ → List ℕ → List ℕ
+unfolding familiesOf
+stored fs gs = sets (replicate words 0) 0 (familiesOf fs gs)
 
 -- the empty record: no states, no requirements, no looks
 unfoldable pub none : Trial
-none = record {
-  states = 0;
-  count = 0;
-  bit = 0;
-  moved = 0;
-  looks = 0;
-  blocks = replicate 512 0;
-  cards = replicate most-trial 0;
-  table = replicate 64 level;
-}
+none = record { states = 0; count = 0; bit = 0; moved = 0; looks = 0; families = replicate words 0; table = replicate 64 level }
 
 -- the record that shows a start: nothing has moved
 unfoldable pub shown : ℕ → ℕ → List ℕ → List ℕ → Trial
-unfolding deck blocksOf filled
+unfolding stored filled requirementsIn
 shown n b fs gs = record {
   states = n;
   count = length fs;
   bit = b;
   moved = 0;
   looks = 0;
-  blocks = blocksOf fs gs;
-  cards = deck;
-  table = filled (drawn (blocksOf fs gs) (take (length fs) deck)) b (replicate 64 level);
+  families = stored fs gs;
+  table = filled (requirementsIn (take (3 * length fs) (stored fs gs))) b (replicate 64 level);
 }
 
 -- a start: what cannot start hands back the empty record
@@ -83,7 +72,7 @@ startOf n b fs gs = cond (startable n b fs gs) (taken (shown n b fs gs)) (turned
 
 -- the requirements that a record lists
 abbrev pub askedOf : Trial → List Requirement
-askedOf t = drawn (t .blocks) (take (t .count) (t .cards))
+askedOf t = requirementsIn (take (3 * t .count) (t .families))
 
 -- the record after the move of s; the looks are a sum of 64 digits, which no record that a start gave comes near
 unfoldable pub nextOf : Trial → ℕ → Trial
@@ -96,8 +85,7 @@ nextOf t s =
       bit = a;
       moved = flip (t .moved) s;
       looks = (t .looks + looked (askedOf t) (t .bit) a s) % 2 ^ 64;
-      blocks = t .blocks;
-      cards = t .cards;
+      families = t .families;
       table = moved (askedOf t) (t .bit) a s (t .table);
     }
 

@@ -1,20 +1,19 @@
 // The trial record, for single moves, by value.
 ghost use mathlib.Core.Path.{_≡_};
-ghost use Prim.Native.Nat.{_+_, _<_, _≤_};
+ghost use Prim.Native.Nat.{_<_, _≤_};
 ghost use lib.ListN.{replicate};
-ghost use lib.Seq.{sets};
 ghost use Rattle.rules.specs.Limits.{most-trial};
 ghost use Rattle.rules.specs.Cases.{verdictNumbers};
 ghost use Rattle.shares.specs.Table.{level};
-ghost use Rattle.deck.specs.Deck.{drawn};
+ghost use Rattle.families.specs.Families.{requirementsIn};
 ghost use Rattle.moves.specs.Moves.{filled};
-ghost use Rattle.trial.specs.Record.{cardOf, deck, blocksOf, taken, turnedDown, none, shown, startOf, nextOf, moveOf, gainOf};
+ghost use Rattle.trial.specs.Record.{stored, taken, turnedDown, none, shown, startOf, nextOf, moveOf, gainOf};
 
-// The blocks of the most requirements, two for each.
-const BLOCKS: usize = 512;
+// Three words for each of the most requirements.
+const WORDS: usize = 768;
 
-// A trial record: n states, how many requirements it lists, the bit, the states that have moved, the looks so far. Of the blocks the first
-// 256 are first blocks and the others second ones; a card names two of them; the table has each state's level, as passes have it.
+// A trial record: n states, how many requirements it lists, the bit, the states that have moved, the looks so far. Each requirement is a family of its
+// own, in three words; the table has each state's level, as passes have it.
 #[repr(C)]
 pub struct Trial {
     pub states: usize,
@@ -22,8 +21,7 @@ pub struct Trial {
     pub bit: u64,
     pub moved: u64,
     pub looks: u64,
-    pub blocks: [u64; BLOCKS],
-    pub cards: [u32; rules::MOST_TRIAL],
+    pub families: [u64; WORDS],
     pub table: [u32; 64],
 }
 
@@ -33,83 +31,46 @@ pub struct Answer {
     pub trial: Trial,
 }
 
-// The blocks of a list stored in a table, from the place `at` on.
-fn store(t: &mut [u64], at: usize, list: &[u64])
-    requires { do ⌜ at + (← ⟦list.len()⟧) ≤ (← ⟦t.len()⟧) ⌝ }
-    ensures { λ r. ⌜ now (t .exit) ≡ sets (now (t .entry)) at (now (list .entry)) ⌝ }
+// The families of the requirements, one for each, in the first places of an array.
+fn families_of(firsts: &[u64], seconds: &[u64]) -> [u64; WORDS]
+    requires { do ⌜ ((← ⟦firsts.len()⟧) ≤ most-trial) × ((← ⟦firsts.len()⟧) ≡ (← ⟦seconds.len()⟧)) ⌝ }
+    ensures { λ r. ⌜ r ≡ stored (now (firsts .entry)) (now (seconds .entry)) ⌝ }
 {
+    let mut t = [0; WORDS];
     let mut i: usize = 0;
-    while i < list.len() {
-        t[at + i] = list[i];
-        i += 1;
-    }
-}
-
-// A table of empty blocks.
-fn no_blocks() -> [u64; BLOCKS]
-    ensures { λ r. ⌜ r ≡ replicate 512 0 ⌝ }
-{
-    [0; BLOCKS]
-}
-
-// The blocks of a record: first ones from place 0 on, second ones from place 256 on.
-fn blocks_of(firsts: &[u64], seconds: &[u64]) -> [u64; BLOCKS]
-    requires { do ⌜ ((← ⟦firsts.len()⟧) ≤ most-trial) × ((← ⟦seconds.len()⟧) ≤ most-trial) ⌝ }
-    ensures { λ r. ⌜ r ≡ blocksOf (now (firsts .entry)) (now (seconds .entry)) ⌝ }
-{
-    let mut t = no_blocks();
-    store(&mut t, 0, firsts);
-    store(&mut t, rules::MOST_TRIAL, seconds);
-    t
-}
-
-// The card of requirement i.
-fn card_of(i: usize) -> u32
-    requires { ⌜ i < most-trial ⌝ }
-    ensures { λ r. ⌜ r ≡ cardOf i ⌝ }
-{
-    (i + i * 16384 + (rules::MOST_TRIAL + i) * 8388608) as u32
-}
-
-// The cards of a record, of all requirements that it has room for.
-fn deck_of() -> [u32; rules::MOST_TRIAL]
-    ensures { λ r. ⌜ r ≡ deck ⌝ }
-{
-    let mut t = [0; rules::MOST_TRIAL];
-    let mut i: usize = 0;
-    while i < rules::MOST_TRIAL {
-        t[i] = card_of(i);
+    while i < firsts.len() {
+        t[3 * i] = firsts[i] | seconds[i];
+        t[3 * i + 1] = seconds[i];
+        t[3 * i + 2] = 0;
         i += 1;
     }
     t
 }
 
 // The levels of all states at the bit b.
-fn levels_at(blocks: &[u64], cards: &[u32], b: u64) -> [u32; 64]
-    ensures { λ r. ⌜ r ≡ filled (drawn (now (blocks .entry)) (now (cards .entry))) b (replicate 64 level) ⌝ }
+fn levels_at(fs: &[u64], b: u64) -> [u32; 64]
+    ensures { λ r. ⌜ r ≡ filled (requirementsIn (now (fs .entry))) b (replicate 64 level) ⌝ }
 {
     let mut t = [shares::LEVEL; 64];
-    moves::fill(blocks, cards, b, &mut t);
+    move_families::fill_families(fs, b, &mut t);
     t
 }
 
 // The record that shows a start.
 fn shown_at(n: usize, bit: u64, firsts: &[u64], seconds: &[u64]) -> Trial
-    requires { do ⌜ ((← ⟦firsts.len()⟧) ≤ most-trial) × ((← ⟦seconds.len()⟧) ≤ most-trial) ⌝ }
+    requires { do ⌜ ((← ⟦firsts.len()⟧) ≤ most-trial) × ((← ⟦firsts.len()⟧) ≡ (← ⟦seconds.len()⟧)) ⌝ }
     ensures { λ r. ⌜ r ≡ shown n bit (now (firsts .entry)) (now (seconds .entry)) ⌝ }
 {
     let count = firsts.len();
-    let blocks = blocks_of(firsts, seconds);
-    let cards = deck_of();
-    let table = levels_at(&blocks, &cards[..count], bit);
+    let families = families_of(firsts, seconds);
+    let table = levels_at(&families[..3 * count], bit);
     Trial {
         states: n,
         count,
         bit,
         moved: 0,
         looks: 0,
-        blocks,
-        cards,
+        families,
         table,
     }
 }
@@ -124,8 +85,7 @@ fn empty() -> Trial
         bit: 0,
         moved: 0,
         looks: 0,
-        blocks: no_blocks(),
-        cards: [0; rules::MOST_TRIAL],
+        families: [0; WORDS],
         table: [shares::LEVEL; 64],
     }
 }
@@ -156,19 +116,16 @@ fn next_of(t: Trial, s: usize) -> Trial
 {
     let bit = t.bit;
     let count = t.count;
-    let blocks = t.blocks;
-    let cards = t.cards;
+    let families = t.families;
     let mut table = t.table;
-    let after = sets::flipped(bit, s);
-    let looks = moves::move_all(&blocks, &cards[..count], bit, after, s, &mut table);
+    let looks = move_families::move_families(&families[..3 * count], bit, s, &mut table);
     Trial {
         states: t.states,
         count,
-        bit: after,
+        bit: sets::flipped(bit, s),
         moved: sets::flipped(t.moved, s),
         looks: std::num::wrapping_add_u64(t.looks, looks as u64),
-        blocks,
-        cards,
+        families,
         table,
     }
 }

@@ -1,0 +1,4 @@
+pub mod Parts
+pub mod Inside
+pub mod Drawn
+pub mod Walk

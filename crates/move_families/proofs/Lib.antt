@@ -1,0 +1,4 @@
+pub mod Lists
+pub mod Whole
+pub mod Turn
+pub mod Filling

@@ -1,0 +1,2 @@
+pub mod Swayed
+pub mod Filled

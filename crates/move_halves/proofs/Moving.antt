@@ -1,0 +1,112 @@
+-- The move of a state for one family, case by case, as code goes through it.
+use mathlib.Core.Path.{_≡_, refl, sym, ap, ap₂, _∙_}
+use mathlib.Core.Bool.{Bool, true, false, _&&_, _||_, not, cond}
+use mathlib.Core.List.{List}
+use Prim.Native.Nat.{ℕ, _^_, _<_}
+use native.Mathlib.Decide.{decLt}
+use native.Mathlib.Omega.{arith}
+use lib.Bits.{bitAnd, bitOr, bitXor}
+use lib.Dec.{eqb, leb}
+use borrow.Author.Tests.{eq-eqb, ne-eqb, eqb-true, eqb-false}
+use Rattle.sets.specs.Sets.{has, only, size}
+use Rattle.sets.proofs.Members.{has-lt, has-or, has-high}
+use Rattle.families.specs.Families.{without}
+use Rattle.move_halves.specs.Halves.{side, ones, zeros, worth, halved, sideBut, backBut, nearBut, nearAt, swayedIn, swayedOut, swayed, looksBy, looksOf}
+use Rattle.move_halves.proofs.Far.{swayed-far, looks-far}
+use Rattle.families.proofs.Parts.{has-rest}
+
+-- a member of a mask of 64 digits is one of the first 64 states
+pub member-below : (m s : ℕ) → m < 2 ^ 64 → has m s ≡ 1 → s < 64
+member-below m s h e = go (decLt s 64)
+  where
+    go : Dec (s < 64) → s < 64
+    go (yes l) = l
+    go (no l) = absurd (omega (arith, has-high 64 m s h (omega arith)))
+
+module _ (all flip out b s : ℕ) (t : List ℕ) where
+  -- the family has not the state, or is far without it
+  pub move-passed : nearAt all flip out b s ≡ false → (looksOf all flip out b s ≡ 0) × (swayed all flip out b s t ≡ t)
+  unfolding nearAt looksOf swayed
+  move-passed far = go (eqb (has (bitOr all out) s) 1) refl far
+    where
+      missing : eqb (has (bitOr all out) s) 1 ≡ false → (looksOf all flip out b s ≡ 0) × (swayed all flip out b s t ≡ t)
+      missing h =
+          let o = eqb-false (has (bitOr all out) s) 1 h in
+          let e : has (bitOr all out) s ≡ 0 = omega (arith, has-lt (bitOr all out) s) in
+          let p : eqb (has all s) 1 ≡ false = ne-eqb (has all s) 1 (λ d. omega (arith, has-or all out s)) in
+          let q : eqb (has (without out all) s) 1 ≡ false = ne-eqb (has (without out all) s) 1 (λ d. omega (arith, has-or all out s, has-rest out all s)) in
+          (rw (p, q) refl, rw (p, q) refl)
+
+      go : (u : Bool) → eqb (has (bitOr all out) s) 1 ≡ u → (u && nearBut all flip b s) ≡ false → (looksOf all flip out b s ≡ 0) × (swayed all flip out b s t ≡ t)
+      go true h e = (looks-far all flip out b s e, swayed-far all flip out b s e t)
+      go false h e = missing h
+
+  -- what it says of a family that is not passed over
+  pub near-has : nearAt all flip out b s ≡ true → (has (bitOr all out) s ≡ 1) × (nearBut all flip b s ≡ true)
+  unfolding nearAt
+  near-has near = go (eqb (has (bitOr all out) s) 1) refl near
+    where
+      go : (u : Bool) → eqb (has (bitOr all out) s) 1 ≡ u → (u && nearBut all flip b s) ≡ true → (has (bitOr all out) s ≡ 1) × (nearBut all flip b s ≡ true)
+      go true h e = (eqb-true (has (bitOr all out) s) 1 h, e)
+      go false h e = absurd (omega (arith, ap {B = ℕ} (λ (u : Bool). cond u 1 0) e))
+
+  -- a member in common
+  pub move-common : has all s ≡ 1
+      → (looksOf all flip out b s ≡ looksBy out (size (sideBut all flip b s)) (size (backBut all flip b s)) (ones (without out all) b) (zeros (without out all) b))
+      × (swayed all flip out b s t
+      ≡ halved (not (eqb (has (bitXor b flip) s) 1)) (worth out (zeros (without out all) b)) all (backBut all flip b s) (zeros (without out all) b) (ones (without out all) b)
+      (halved (eqb (has (bitXor b flip) s) 1) (worth out (ones (without out all) b)) all (sideBut all flip b s) (ones (without out all) b) (zeros (without out all) b) t))
+  unfolding looksOf swayed swayedIn
+  move-common e = (rw (eq-eqb (has all s) 1 e) refl, rw (eq-eqb (has all s) 1 e) refl)
+
+  -- a state outside
+  pub move-outside : has (bitOr all out) s ≡ 1 → has all s ≡ 0 → nearBut all flip b s ≡ true
+      → (looksOf all flip out b s ≡ 1)
+      × (swayed all flip out b s t
+      ≡ halved (not (not (eqb (has b s) 1))) 1 all (backBut all flip b s) (only s) 0 (halved (not (eqb (has b s) 1)) 1 all (sideBut all flip b s) (only s) 0 t))
+  unfolding looksOf swayed swayedOut
+  move-outside e f near =
+      let p : eqb (has all s) 1 ≡ false = ne-eqb (has all s) 1 (λ d. omega arith) in
+      let i : has out s ≡ 1 = omega (arith, has-or all out s) in
+      let q : eqb (has (without out all) s) 1 ≡ true = eq-eqb (has (without out all) s) 1 (omega (arith, has-rest out all s)) in
+      (rw (p, q, near) refl, rw (p, q) refl)
+
+  -- the same, of what code has on the way
+  module _ (others x : ℕ) (eo : others ≡ without all (only s)) (ex : x ≡ side others flip b) where
+    ex′ : x ≡ sideBut all flip b s
+    ex′ = ex ∙ ap (λ (m : ℕ). side m flip b) eo
+
+    ey : bitXor others x ≡ backBut all flip b s
+    ey = ap₂ bitXor eo ex′
+
+    pub by-near : (r : Bool) → has (bitOr all out) s ≡ 1 → r ≡ (leb (size x) 1 || leb (size (bitXor others x)) 1) → r ≡ nearAt all flip out b s
+    unfolding nearAt
+    by-near r e er = er ∙ ap₂ (λ (k j : ℕ). leb (size k) 1 || leb (size j) 1) ex′ ey ∙ sym (ap (λ (u : Bool). u && nearBut all flip b s) (eq-eqb (has (bitOr all out) s) 1 e))
+
+    pub by-common : (on : Bool) (o r : ℕ) (t′ : List ℕ) → has all s ≡ 1 → on ≡ eqb (has (bitXor b flip) s) 1 → o ≡ without out all
+        → (r ≡ looksBy out (size x) (size (bitXor others x)) (bitAnd o b) (bitXor o (bitAnd o b)))
+        × (t′ ≡ halved (not on) (worth out (bitXor o (bitAnd o b))) all (bitXor others x) (bitXor o (bitAnd o b)) (bitAnd o b) (halved on (worth out (bitAnd o b)) all x (bitAnd o b) (bitXor o (bitAnd o b)) t))
+        → (r ≡ looksOf all flip out b s) × (t′ ≡ swayed all flip out b s t)
+    by-common on o r t′ e p q h = (
+      h .0
+          ∙ ap₂ (λ (k j : ℕ). looksBy out k j (bitAnd o b) (bitXor o (bitAnd o b))) (ap size ex′) (ap size ey)
+          ∙ ap (λ (m : ℕ). looksBy out (size (sideBut all flip b s)) (size (backBut all flip b s)) (bitAnd m b) (bitXor m (bitAnd m b))) q
+          ∙ sym (move-common e .0),
+      h .1
+          ∙ ap₂ (λ (k j : ℕ). halved (not on) (worth out (bitXor o (bitAnd o b))) all j (bitXor o (bitAnd o b)) (bitAnd o b) (halved on (worth out (bitAnd o b)) all k (bitAnd o b) (bitXor o (bitAnd o b)) t)) ex′ ey
+          ∙ ap₂
+          (λ (u : Bool) (m : ℕ). halved (not u) (worth out (bitXor m (bitAnd m b))) all (backBut all flip b s) (bitXor m (bitAnd m b)) (bitAnd m b) (halved u (worth out (bitAnd m b)) all (sideBut all flip b s) (bitAnd m b) (bitXor m (bitAnd m b)) t))
+          p q
+          ∙ sym (move-common e .1),
+    )
+
+    pub by-outside : (u : Bool) (own : ℕ) (t′ : List ℕ) → has (bitOr all out) s ≡ 1 → has all s ≡ 0 → nearBut all flip b s ≡ true → u ≡ eqb (has b s) 1 → own ≡ only s
+        → t′ ≡ halved (not (not u)) 1 all (bitXor others x) own 0 (halved (not u) 1 all x own 0 t)
+        → (1 ≡ looksOf all flip out b s) × (t′ ≡ swayed all flip out b s t)
+    by-outside u own t′ e f near p q h = (
+      sym (move-outside e f near .0),
+      h
+          ∙ ap₂ (λ (k j : ℕ). halved (not (not u)) 1 all j own 0 (halved (not u) 1 all k own 0 t)) ex′ ey
+          ∙ ap₂ (λ (u : Bool) (own : ℕ). halved (not (not u)) 1 all (backBut all flip b s) own 0 (halved (not u) 1 all (sideBut all flip b s) own 0 t)) p q
+          ∙ sym (move-outside e f near .1),
+    )

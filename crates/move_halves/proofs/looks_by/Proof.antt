@@ -1,0 +1,98 @@
+-- `move_halves::looks_by` meets its contract.
+use mathlib.Core.Path.{ap₂}
+use mathlib.Core.Bool.{cond}
+use Rattle.sets.proofs.SizeMembers.{size-few}
+use Rattle.move_halves.specs.Halves.{looksBy}
+use Prim.Native.Nat.{ℕ, zero, suc, _≤_, _<_, _-_, _+_, _*_, _^_}
+use mathlib.Core.Path.{_≡_, refl, sym, ap, _∙_}
+use mathlib.Core.Logic.{⊎-elim}
+use mathlib.Core.List.{List, [], _∷_, _++_}
+use mathlib.Core.Bool.{Bool, true, false}
+use native.Mathlib.Omega.{arith}
+use native.Mathlib.Numerals.{add-one}
+use borrow.Author.Needs.{needs}
+use borrow.Author.Tests.{lt-ltb, le-ltb, le-leb, lt-leb, eq-eqb, ne-eqb, not-true, not-false}
+use lib.ListN.{length, take, drop, getD, set}
+use borrow.Author.Needs.{needs}
+use Rattle.move_halves.proofs.looks_by.Statement.{statement}
+use Rattle.move_halves.proofs.looks_by.Tie as tie
+use Rattle.move_halves.proofs.looks_by.Reads as reads
+use Rattle.move_halves.proofs.looks_by.Lts as lts
+use Rattle.move_halves.proofs.counted.Reads as counted-reads
+use Rattle.move_halves.proofs.near_of.Reads as near-of-reads
+use Rattle.move_halves.proofs.seen_of.Reads as seen-of-reads
+use Rattle.sets.proofs.size_of.Reads as size-of-reads
+
+at-most : (t : Bool) (m : ℕ) → cond t m 0 ≤ m
+at-most true m = omega arith
+at-most false m = omega arith
+
+near-of-requires : tie.Need-near-of-requires
+near-of-requires c κs = search needs
+
+counted-requires : tie.Need-counted-requires
+counted-requires c κs = search needs
+
+returns : tie.Need-returns
+unfolding looksBy
+returns c =
+    rw (eq-eqb (c .before .before .before .args .out) 0 (c .before .before .if1 .taken)) (c .counted .ensures ∙ ap (λ (t : Bool). cond t 1 0) (c .before .near-of .ensures))
+
+seen-of-requires : tie.Need-seen-of-requires
+seen-of-requires c κs = search needs
+
+size-of-requires : tie.Need-size-of-requires
+size-of-requires c κs = search needs
+
+counted-requires-2 : tie.Need-counted-requires-2
+counted-requires-2 c κs = search needs
+
+seen-of-requires-2 : tie.Need-seen-of-requires-2
+seen-of-requires-2 c κs = search needs
+
+size-of-requires-2 : tie.Need-size-of-requires-2
+size-of-requires-2 c κs = search needs
+
+counted-requires-3 : tie.Need-counted-requires-3
+counted-requires-3 c κs = search needs
+
+add-result : tie.Need-add-result
+add-result c =
+    let s = c .before .before .before .before .before .before .before in
+    record {
+      fits = omega (
+        arith,
+        c .before .before .before .counted2 .ensures,
+        at-most (c .before .before .before .before .before .seen-of .result) (c .before .before .before .before .size-of .result),
+        c .before .before .before .before .size-of .ensures,
+        size-few 64 (s .args .right) (s .fits .right .fits),
+        c .counted3 .ensures,
+        at-most (c .before .before .seen-of2 .result) (c .before .size-of2 .result),
+        c .before .size-of2 .ensures,
+        size-few 64 (s .args .rest) (s .fits .rest .fits),
+      );
+    }
+
+returns-2 : tie.Need-returns-2
+unfolding looksBy
+returns-2 c =
+    rw (ne-eqb (c .before .before .before .before .before .before .before .args .out) 0 (c .before .before .before .before .before .before .if1 .left))
+    (ap₂ (λ (k j : ℕ). k + j)
+    (c .before .before .before .counted2 .ensures ∙ ap₂ (λ (t : Bool) (m : ℕ). cond t m 0) (c .before .before .before .before .before .seen-of .ensures) (c .before .before .before .before .size-of .ensures))
+    (c .counted3 .ensures ∙ ap₂ (λ (t : Bool) (m : ℕ). cond t m 0) (c .before .before .seen-of2 .ensures) (c .before .size-of2 .ensures)))
+
+pub looks-by-spec : {M : Type 1} → statement M
+looks-by-spec =
+    tie.close
+    (tie.spec
+    near-of-requires
+    counted-requires
+    returns
+    seen-of-requires
+    size-of-requires
+    counted-requires-2
+    seen-of-requires-2
+    size-of-requires-2
+    counted-requires-3
+    add-result
+    returns-2)

@@ -1,0 +1,37 @@
+-- `move_halves::near_of` meets its contract.
+use mathlib.Core.Bool.{_||_}
+use lib.Dec.{leb}
+use Rattle.sets.specs.Sets.{size}
+use Prim.Native.Nat.{ℕ, zero, suc, _≤_, _<_, _-_, _+_, _*_, _^_}
+use mathlib.Core.Path.{_≡_, refl, sym, ap, _∙_}
+use mathlib.Core.Logic.{⊎-elim}
+use mathlib.Core.List.{List, [], _∷_, _++_}
+use mathlib.Core.Bool.{Bool, true, false}
+use native.Mathlib.Omega.{arith}
+use native.Mathlib.Numerals.{add-one}
+use borrow.Author.Needs.{needs}
+use borrow.Author.Tests.{lt-ltb, le-ltb, le-leb, lt-leb, eq-eqb, ne-eqb, not-true, not-false}
+use lib.ListN.{length, take, drop, getD, set}
+use borrow.Author.Needs.{needs}
+use Rattle.move_halves.proofs.near_of.Statement.{statement}
+use Rattle.move_halves.proofs.near_of.Tie as tie
+use Rattle.move_halves.proofs.near_of.Reads as reads
+use Rattle.move_halves.proofs.near_of.Lts as lts
+use Rattle.sets.proofs.few.Reads as few-reads
+
+few-requires : tie.Need-few-requires
+few-requires c κs = search needs
+
+returns : tie.Need-returns
+returns c =
+    sym (ap (λ (u : Bool). u || leb (size (c .before .before .args .y)) 1) (sym (c .before .few .ensures) ∙ c .if1 .taken))
+
+few-requires-2 : tie.Need-few-requires-2
+few-requires-2 c κs = search needs
+
+returns-2 : tie.Need-returns-2
+returns-2 c =
+    c .few2 .ensures ∙ sym (ap (λ (u : Bool). u || leb (size (c .before .before .before .args .y)) 1) (sym (c .before .before .few .ensures) ∙ c .before .if1 .left))
+
+pub near-of-spec : {M : Type 1} → statement M
+near-of-spec = tie.close (tie.spec few-requires returns few-requires-2 returns-2)

@@ -1,0 +1,89 @@
+-- `move_halves::put_half` meets its contract.
+use Rattle.move_halves.proofs.Halving.{halved-none, halved-one, halved-more}
+use Prim.Native.Nat.{ℕ, zero, suc, _≤_, _<_, _-_, _+_, _*_, _^_}
+use mathlib.Core.Path.{_≡_, refl, sym, ap, _∙_}
+use mathlib.Core.Logic.{⊎-elim}
+use mathlib.Core.List.{List, [], _∷_, _++_}
+use mathlib.Core.Bool.{Bool, true, false}
+use native.Mathlib.Omega.{arith}
+use native.Mathlib.Numerals.{add-one}
+use borrow.Author.Needs.{needs}
+use borrow.Author.Tests.{lt-ltb, le-ltb, le-leb, lt-leb, eq-eqb, ne-eqb, not-true, not-false}
+use lib.ListN.{length, take, drop, getD, set}
+use borrow.Author.Needs.{needs}
+use Rattle.move_halves.proofs.put_half.Statement.{statement}
+use Rattle.move_halves.proofs.put_half.Tie as tie
+use Rattle.move_halves.proofs.put_half.Reads as reads
+use Rattle.move_halves.proofs.put_half.Lts as lts
+use Rattle.move_halves.proofs.signed_of.Reads as signed-of-reads
+use Rattle.sets.proofs.few.Reads as few-reads
+use Rattle.shares.proofs.raise.Reads as raise-reads
+
+signed-of-requires : tie.Need-signed-of-requires
+signed-of-requires c κs = search needs
+
+raise-requires : tie.Need-raise-requires
+raise-requires c κs = search needs
+
+signed-of-requires-2 : tie.Need-signed-of-requires-2
+signed-of-requires-2 c κs = search needs
+
+raise-requires-2 : tie.Need-raise-requires-2
+raise-requires-2 c κs = search needs
+
+signed-of-requires-3 : tie.Need-signed-of-requires-3
+signed-of-requires-3 c κs = search needs
+
+raise-requires-3 : tie.Need-raise-requires-3
+raise-requires-3 c κs = search needs
+
+few-requires : tie.Need-few-requires
+few-requires c κs = search needs
+
+signed-of-requires-4 : tie.Need-signed-of-requires-4
+signed-of-requires-4 c κs = search needs
+
+raise-requires-4 : tie.Need-raise-requires-4
+raise-requires-4 c κs = search needs
+
+same-length : tie.Need-same-length
+same-length c = search needs
+
+returns : tie.Need-returns
+returns c =
+    let a = c .before .before .before .before .before .before .before .before .before .before .before .before .before .before .before .before .before .args in
+    let z = halved-none (a .on) (a .w) (a .all) (a .side) (a .right) (a .rest) (a .t .now) (c .before .before .before .before .before .before .before .before .before .before .before .before .before .before .before .if1 .taken) in
+    cc
+
+same-length-2 : tie.Need-same-length-2
+same-length-2 c = search needs
+
+returns-2 : tie.Need-returns-2
+returns-2 c =
+    let a = c .before .before .before .before .before .before .before .before .before .args in
+    let z = halved-one (a .on) (a .w) (a .all) (a .side) (a .right) (a .rest) (a .t .now) (c .before .before .before .before .before .before .before .before .before .fits .side .fits) (c .before .before .before .before .before .before .before .if1 .left) (sym (c .before .before .before .before .before .before .few .ensures) ∙ c .before .before .before .before .before .if2 .taken) in
+    cc
+
+returns-3 : tie.Need-returns-3
+returns-3 c =
+    let a = c .before .before .before .before .args in
+    sym (halved-more (a .on) (a .w) (a .all) (a .side) (a .right) (a .rest) (a .t .now) (sym (c .before .few .ensures) ∙ c .if2 .left))
+
+pub put-half-spec : {M : Type 1} → statement M
+put-half-spec =
+    tie.close
+    (tie.spec
+    signed-of-requires
+    raise-requires
+    signed-of-requires-2
+    raise-requires-2
+    signed-of-requires-3
+    raise-requires-3
+    few-requires
+    signed-of-requires-4
+    raise-requires-4
+    same-length
+    returns
+    same-length-2
+    returns-2
+    returns-3)

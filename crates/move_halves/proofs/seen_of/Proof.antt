@@ -1,0 +1,43 @@
+-- `move_halves::seen_of` meets its contract.
+use mathlib.Core.Bool.{_||_}
+use lib.Dec.{eqb, leb}
+use Rattle.sets.specs.Sets.{size}
+use Rattle.move_halves.proofs.Halving.{size-test}
+use Prim.Native.Nat.{ℕ, zero, suc, _≤_, _<_, _-_, _+_, _*_, _^_}
+use mathlib.Core.Path.{_≡_, refl, sym, ap, _∙_}
+use mathlib.Core.Logic.{⊎-elim}
+use mathlib.Core.List.{List, [], _∷_, _++_}
+use mathlib.Core.Bool.{Bool, true, false}
+use native.Mathlib.Omega.{arith}
+use native.Mathlib.Numerals.{add-one}
+use borrow.Author.Needs.{needs}
+use borrow.Author.Tests.{lt-ltb, le-ltb, le-leb, lt-leb, eq-eqb, ne-eqb, not-true, not-false}
+use lib.ListN.{length, take, drop, getD, set}
+use borrow.Author.Needs.{needs}
+use Rattle.move_halves.proofs.seen_of.Statement.{statement}
+use Rattle.move_halves.proofs.seen_of.Tie as tie
+use Rattle.move_halves.proofs.seen_of.Reads as reads
+use Rattle.move_halves.proofs.seen_of.Lts as lts
+use Rattle.sets.proofs.few.Reads as few-reads
+
+or-true : (u : Bool) → true ≡ (u || true)
+or-true true = refl
+or-true false = refl
+
+or-false : (u : Bool) → u ≡ (u || false)
+or-false true = refl
+or-false false = refl
+
+returns : tie.Need-returns
+returns c =
+    or-true (leb (size (c .before .args .x)) 1) ∙ ap (λ (u : Bool). leb (size (c .before .args .x)) 1 || u) (sym (size-test (c .before .args .y) (c .before .fits .y .fits) ∙ eq-eqb (c .before .args .y) 0 (c .if1 .taken)))
+
+few-requires : tie.Need-few-requires
+few-requires c κs = search needs
+
+returns-2 : tie.Need-returns-2
+returns-2 c =
+    c .few .ensures ∙ or-false (leb (size (c .before .before .args .x)) 1) ∙ ap (λ (u : Bool). leb (size (c .before .before .args .x)) 1 || u) (sym (size-test (c .before .before .args .y) (c .before .before .fits .y .fits) ∙ ne-eqb (c .before .before .args .y) 0 (c .before .if1 .left)))
+
+pub seen-of-spec : {M : Type 1} → statement M
+seen-of-spec = tie.close (tie.spec returns few-requires returns-2)
