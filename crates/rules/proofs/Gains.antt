@@ -14,7 +14,7 @@ use Rattle.rules.proofs.Complement.{new-bit-meets}
 use Rattle.rules.proofs.Good.{AllGood}
 
 -- a bit meets some of the live requirements and leaves the others
-left-count : (n b : ℕ) (rs : List Requirement) → metCount n rs b + length (unmetBy n b rs) ≡ length rs
+pub left-count : (n b : ℕ) (rs : List Requirement) → metCount n rs b + length (unmetBy n b rs) ≡ length rs
 unfolding metCount unmetBy
 left-count n b [] = refl
 left-count n b (r ∷ rs) = go (met n r b) refl (left-count n b rs)
