@@ -7,12 +7,13 @@ use native.Mathlib.Decide.{ℕ-discrete, decLt}
 use native.Mathlib.Omega.{arith}
 use lib.Dec.{eqb}
 use lib.ListN.{length, getD, set, length-set}
+use lib.Pow.{pow-pos}
 use lib.Seq.{getD-set-same, getD-set-other, set-out}
 use borrow.Author.Tests.{eq-eqb, ne-eqb}
-use Rattle.sets.specs.Sets.{has, flip as turn, size, total, statesFrom}
-use Rattle.sets.proofs.Members.{has-lt, has-and, has-high}
+use Rattle.sets.specs.Sets.{has, only, flip as turn, size, total, statesFrom}
+use Rattle.sets.proofs.Members.{has-lt, has-and, has-xor, has-none, has-high, same-mask, flip-lt}
 use Rattle.sets.proofs.Totals.{total-same, total-change}
-use Rattle.sets.proofs.Size.{size-total}
+use Rattle.sets.proofs.Size.{size-total, none-size}
 use Rattle.sets.proofs.SizeMembers.{size-few}
 use Rattle.rules.specs.Requirements.{metCount}
 use Rattle.rules.specs.Looks.{moveLooks}
@@ -30,7 +31,7 @@ use Rattle.move_pairs.specs.Pairs.{unlikeOf, likeOf, parted, pairsPut, p
 use Rattle.move_pairs.proofs.Partners.{pairsAmong, pairsOf, Partners}
 use Rattle.move_pairs.proofs.Pair.{unlike}
 use Rattle.move_pairs.proofs.Row.{unlike-turned, unlike-second, unlike-other}
-use Rattle.move_pairs.proofs.Flips.{met-in, met-out, looks-in}
+use Rattle.move_pairs.proofs.Flips.{met-in, met-out, looks-in, looks-out}
 
 -- ---- the table
 
@@ -296,9 +297,9 @@ module _ (n : ℕ) (wide : 64 ≤ n) (ps : List ℕ) (table : Partners ps) (b s 
           let j : t + mb + (u + u) ≡ t + u + (mb + u) = omega arith in
           cancel (v + ma) (t + mb) (u + u) (sums i j (plus (v + w) (t + u) (mb + u) h))
 
-  pub pairs-changed : (t : List ℕ) (k : ℕ) → k < length t → Changed n (pairsOf ps) b s k t (pairsSwayed (getD ps s 0) b s t)
+  changed-in : (t : List ℕ) (k : ℕ) → k < length t → Changed n (pairsOf ps) b s k t (pairsSwayed (getD ps s 0) b s t)
   unfolding pairsOf like un t′
-  pairs-changed t k l =
+  changed-in t k l =
       rw (swayed-is (getD ps s 0) b s t)
       (record {
         other = λ o. go o (decLt k 64);
@@ -310,9 +311,91 @@ module _ (n : ℕ) (wide : 64 ≤ n) (ps : List ℕ) (table : Partners ps) (b s 
       go o (no h) = other-out t k l o (omega arith)
 
   -- every live pair of s is looked at
-  pub pairs-looks : moveLooks n (pairsOf ps) b s ≡ size (getD ps s 0)
+  looks-within : moveLooks n (pairsOf ps) b s ≡ size (getD ps s 0)
   unfolding pairsOf
-  pairs-looks =
+  looks-within =
       looks-in n ps table s b 64 0 (omega arith) (omega arith) (omega arith) (omega arith)
       ∙ total-same 64 (λ d. has (getD ps s 0) (0 + d)) (has (getD ps s 0)) (λ d _. ap (has (getD ps s 0)) (none-plus d))
       ∙ sym (size-total 64 (getD ps s 0) (table .words s))
+
+-- ---- a state past the mask's width has no partner, and stands in no pair
+
+pub nobody-past : (ps : List ℕ) → Partners ps → (k : ℕ) → 64 ≤ k → getD ps k 0 ≡ 0
+nobody-past ps table k h =
+    same-mask 64 (getD ps k 0) 0 (table .words k) (pow-pos 64) (λ j _. table .back k j ∙ has-high 64 (getD ps j 0) k (table .words j) h ∙ sym (has-none j))
+
+-- two flips, in either order
+turn-order : (n b s k : ℕ) → b < 2 ^ n → s < n → k < n → turn (turn b s) k ≡ turn (turn b k) s
+turn-order n b s k hb hs hk =
+    same-mask n (turn (turn b s) k) (turn (turn b k) s) (flip-lt n (turn b s) k (flip-lt n b s hb hs) hk) (flip-lt n (turn b k) s (flip-lt n b k hb hk) hs)
+    (λ t _. has-xor (turn b s) (only k) t
+    ∙ ap (λ (d : ℕ). (d + has (only k) t) % 2) (has-xor b (only s) t)
+    ∙ swap (has b t) (has (only s) t) (has (only k) t)
+    ∙ sym (has-xor (turn b k) (only s) t ∙ ap (λ (d : ℕ). (d + has (only s) t) % 2) (has-xor b (only k) t)))
+  where
+    swap : (x y z : ℕ) → ((x + y) % 2 + z) % 2 ≡ ((x + z) % 2 + y) % 2
+    swap x y z = omega arith
+
+module _ (n : ℕ) (wide : 64 ≤ n) (ps : List ℕ) (table : Partners ps) (b s : ℕ) (hb : b < 2 ^ n) (hs : s < n) (past : 64 ≤ s) where
+  none : (f : ℕ → ℕ) (k : ℕ) → over (getD ps s 0) f k ≡ 0
+  none f k = over-out (getD ps s 0) f k (ap (λ (m : ℕ). has m k) (nobody-past ps table s past) ∙ has-none k)
+
+  sizes : size (likeOf (getD ps s 0) b s) + size (unlikeOf (getD ps s 0) b s) ≡ 0
+  sizes = parts-size (getD ps s 0) b s 0 (table .words s) ∙ ap size (nobody-past ps table s past) ∙ none-size 0 0 (pow-pos 0) (λ j _. has-none j)
+
+  stays : (x : ℕ) → metCount n (pairsOf ps) (turn x s) ≡ metCount n (pairsOf ps) x
+  unfolding pairsOf
+  stays x = flip-out n wide ps table b 0 (omega arith) x s past
+
+  changed-past : (t : List ℕ) (k : ℕ) → k < n → k < length t → Changed n (pairsOf ps) b s k t (pairsSwayed (getD ps s 0) b s t)
+  changed-past t k hk l =
+      let like : ℕ = likeOf (getD ps s 0) b s in
+      let un : ℕ = unlikeOf (getD ps s 0) b s in
+      let t′ : List ℕ = pairsPut like un s t in
+      let fits : like < 2 ^ 64 = parts-lt (getD ps s 0) b s 0 64 (table .words s) .0 in
+      let no-like : (j : ℕ) → has like j ≡ 0 = λ j. like-at (getD ps s 0) b s j ∙ none (λ j. 1 - unlike b s j) j in
+      let no-un : (j : ℕ) → has un j ≡ 0 = λ j. unlike-at (getD ps s 0) b s j ∙ none (unlike b s) j in
+      let order : turn (turn b s) k ≡ turn (turn b k) s = turn-order n b s k hb hs hk in
+      rw (swayed-is (getD ps s 0) b s t)
+      (record {
+        other = λ o.
+            four (getD t k 0) (getD t′ k 0) (metCount n (pairsOf ps) (turn b s)) (metCount n (pairsOf ps) (turn b k)) (metCount n (pairsOf ps) b) (metCount n (pairsOf ps) (turn (turn b s) k)) (has like k) (has un k)
+            (stays b) (ap (metCount n (pairsOf ps)) order ∙ stays (turn b k)) (no-like k) (no-un k) (put-other like un s t fits k l o);
+        own = λ z.
+            subst (λ (k : ℕ). (getD t′ k 0 + metCount n (pairsOf ps) (turn b s)) % 2 ^ 32 ≡ (getD t k 0 + metCount n (pairsOf ps) b) % 2 ^ 32) (sym z)
+            (two (getD t s 0) (getD t′ s 0) (metCount n (pairsOf ps) (turn b s)) (metCount n (pairsOf ps) b) (size like) (size un) (stays b) sizes
+            (put-own like un s t fits (subst (λ (k : ℕ). k < length t) z l) (no-like s) (no-un s)));
+      })
+    where
+      four : (t v ma mbk mb mak w u : ℕ) → ma ≡ mb → mak ≡ mbk → w ≡ 0 → u ≡ 0 → (v + 2 * w) % 2 ^ 32 ≡ (t + 2 * u) % 2 ^ 32 → (v + ma + mbk) % 2 ^ 32 ≡ (t + mb + mak) % 2 ^ 32
+      four t v ma mbk mb mak w u e f g c h =
+          let i : v + ma + mbk ≡ v + 2 * w + (ma + mbk) = omega arith in
+          let j : t + mb + mak ≡ t + 2 * u + (ma + mbk) = omega arith in
+          sums i j (plus (v + 2 * w) (t + 2 * u) (ma + mbk) h)
+
+      two : (t v ma mb w u : ℕ) → ma ≡ mb → w + u ≡ 0 → (v + w) % 2 ^ 32 ≡ (t + u) % 2 ^ 32 → (v + ma) % 2 ^ 32 ≡ (t + mb) % 2 ^ 32
+      two t v ma mb w u e f h =
+          let i : v + ma ≡ v + w + ma = omega arith in
+          let j : t + mb ≡ t + u + ma = omega arith in
+          sums i j (plus (v + w) (t + u) ma h)
+
+-- ---- any state
+
+module _ (n : ℕ) (wide : 64 ≤ n) (ps : List ℕ) (table : Partners ps) (b s : ℕ) (hb : b < 2 ^ n) (hs : s < n) where
+  pub pairs-changed : (t : List ℕ) (k : ℕ) → k < n → k < length t → Changed n (pairsOf ps) b s k t (pairsSwayed (getD ps s 0) b s t)
+  pairs-changed t k hk l = go (decLt s 64)
+    where
+      go : Dec (s < 64) → Changed n (pairsOf ps) b s k t (pairsSwayed (getD ps s 0) b s t)
+      go (yes h) = changed-in n wide ps table b s h t k l
+      go (no h) = changed-past n wide ps table b s hb hs (omega arith) t k hk l
+
+  -- every live pair of s is looked at
+  pub pairs-looks : moveLooks n (pairsOf ps) b s ≡ size (getD ps s 0)
+  unfolding pairsOf
+  pairs-looks = go (decLt s 64)
+    where
+      go : Dec (s < 64) → moveLooks n (pairsAmong ps (statesFrom 0 64)) b s ≡ size (getD ps s 0)
+      go (yes h) = looks-within n wide ps table b s h
+      go (no h) =
+          looks-out n ps table b s 64 0 hs (omega arith) (λ d l e. omega arith)
+          ∙ sym (ap size (nobody-past ps table s (omega arith)) ∙ none-size 0 0 (pow-pos 0) (λ j _. has-none j))

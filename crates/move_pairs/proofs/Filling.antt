@@ -13,7 +13,7 @@ use lib.ListN.{length, getD, drop, length-set, drop-of-length-le}
 use lib.Pow.{pow-mono, pow-pos}
 use lib.Seq.{ext-getD, getD-set-same, getD-set-other}
 use Rattle.sets.specs.Sets.{has, flip as turn, size, total, statesFrom}
-use Rattle.sets.proofs.Members.{has-high, has-none, same-mask}
+use Rattle.sets.proofs.Members.{has-none}
 use Rattle.sets.proofs.Totals.{total-same}
 use Rattle.sets.proofs.Size.{size-total, none-size}
 use Rattle.sets.proofs.SizeMembers.{size-few}
@@ -32,7 +32,7 @@ use Rattle.move_pairs.specs.Pairs.{livePairs, likeOf, unlikeOf, partners
 use Rattle.move_pairs.proofs.Partners.{pairsAmong, pairsOf, Partners}
 use Rattle.move_pairs.proofs.Pair.{unlike}
 use Rattle.move_pairs.proofs.Flips.{pairs-good}
-use Rattle.move_pairs.proofs.Changes.{difference, unlike-at, parts-lt, parts-size, flip-in, flip-out, set-fits}
+use Rattle.move_pairs.proofs.Changes.{difference, unlike-at, parts-lt, parts-size, flip-in, flip-out, nobody-past, set-fits}
 use Rattle.move_pairs.proofs.Agreed.{partnersBy, partners-at, partners-length, partners-table, partners-pairs}
 
 -- the states from i on, of which these are the partners
@@ -93,12 +93,6 @@ module _ (b : ℕ) where
 -- ---- the list's table
 
 module _ (ps : List ℕ) (table : Partners ps) (b : ℕ) (hb : b < 2 ^ 64) (t : List ℕ) (fit : Fits t) where
-  -- a state past the mask's width has no partner
-  past : (k : ℕ) → 64 ≤ k → getD ps k 0 ≡ 0
-  past k h =
-      same-mask 64 (getD ps k 0) 0 (table .words k) (pow-pos 64)
-      (λ j _. table .back k j ∙ has-high 64 (getD ps j 0) k (table .words j) h ∙ sym (has-none j))
-
   each : (k : ℕ) → k < length t → getD (pairsFilled b 0 ps t) k 0 ≡ getD (filled (pairsOf ps) b t) k 0
   unfolding pairsOf
   each k l =
@@ -132,7 +126,7 @@ module _ (ps : List ℕ) (table : Partners ps) (b : ℕ) (hb : b < 2 ^ 64) (t : 
           last : (m′ m d y x z : ℕ) → m′ + 2 * d ≡ m + z → d ≡ y → x + y ≡ z → m′ + y ≡ m + x
           last m′ m d y x z e f g = omega arith
       gain n wide (no h) =
-          let z = past k (omega arith) in
+          let z = nobody-past ps table k (omega arith) in
           ap₂ (λ (m p : ℕ). m + size (unlikeOf p b k)) (flip-out n wide ps table b 0 (omega arith) b k (omega arith)) z
           ∙ ap (λ (y : ℕ). metCount n (pairsAmong ps (statesFrom 0 64)) b + y) (like-size b k .1 ∙ sym (like-size b k .0))
           ∙ sym (ap (λ (p : ℕ). metCount n (pairsAmong ps (statesFrom 0 64)) b + size (likeOf p b k)) z)

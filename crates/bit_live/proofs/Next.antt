@@ -1,0 +1,69 @@
+-- What a bit leaves of the live requirements: the families that are left, and the pairs of the longer code.
+use mathlib.Core.Path.{_≡_, refl, sym, ap, ap₂, _∙_}
+use mathlib.Core.Bool.{Bool, true, false, cond}
+use mathlib.Core.List.{List, [], _∷_, _++_}
+use Prim.Native.Nat.{ℕ, suc, _^_, _≤_, _<_, min}
+use native.Mathlib.Omega.{arith}
+use lib.ListN.{length, getD, take, drop}
+use lib.Seq.{take-append-seam}
+use Rattle.sets.specs.Sets.{statesFrom}
+use Rattle.rules.specs.Requirements.{pairs}
+use Rattle.rules.specs.Code.{unmetBy}
+use Rattle.rules.specs.declared.Requirement.{Requirement}
+use Rattle.rules.proofs.Unmet.{liveAfter, unmetIn, live-unmet}
+use Rattle.families.specs.Families.{requirementsOf, requirementsIn}
+use Rattle.families.proofs.Left.{unmet-append}
+use Rattle.move_pairs.specs.Pairs.{livePairs}
+use Rattle.bit_live.specs.Live.{liveIn}
+use Rattle.bit_live.specs.Left.{leftFamilies, siftedFamilies, leftOf, staysOf}
+use Rattle.bit_live.proofs.Family.{family-unmet}
+
+-- families of n states
+abbrev pub Within : ℕ → List ℕ → Type 0
+Within n fs = (i : ℕ) → getD fs i 0 < 2 ^ n
+
+module _ (n b : ℕ) where
+  pub families-left : (fs : List ℕ) → Within n fs → requirementsIn (leftFamilies b fs) ≡ unmetBy n b (requirementsIn fs)
+  unfolding requirementsIn leftFamilies unmetBy
+  families-left [] w = refl
+  families-left (all ∷ []) w = refl
+  families-left (all ∷ (flip ∷ [])) w = refl
+  families-left (all ∷ (flip ∷ (out ∷ fs))) w =
+      one (staysOf all flip out b)
+      ∙ ap₂ _++_ (sym (family-unmet n all flip out b (w 0) (w 2))) (families-left fs (λ i. w (suc (suc (suc i)))))
+      ∙ sym (unmet-append n b (requirementsOf all flip out) (requirementsIn fs))
+    where
+      one : (t : Bool) → requirementsIn (cond t (all ∷ (flip ∷ (leftOf all flip out b ∷ leftFamilies b fs))) (leftFamilies b fs))
+          ≡ cond t (requirementsOf all flip (leftOf all flip out b)) [] ++ requirementsIn (leftFamilies b fs)
+      one true = refl
+      one false = refl
+
+  -- a bit behind the others
+  live-next : (bits : List ℕ) (rs : List Requirement) → liveAfter n (bits ++ (b ∷ [])) rs ≡ unmetBy n b (liveAfter n bits rs)
+  unfolding liveAfter
+  live-next [] rs = refl
+  live-next (a ∷ bits) rs = live-next bits (unmetBy n a rs)
+
+  pub unmet-next : (bits : List ℕ) (rs : List Requirement) → unmetIn n (bits ++ (b ∷ [])) rs ≡ unmetBy n b (unmetIn n bits rs)
+  unmet-next bits rs = sym (live-unmet n (bits ++ (b ∷ [])) rs) ∙ live-next bits rs ∙ ap (unmetBy n b) (live-unmet n bits rs)
+
+-- the families that are left stand in front
+pub sifted-front : (b : ℕ) (fs : List ℕ) → take (length (leftFamilies b fs)) (siftedFamilies b fs) ≡ leftFamilies b fs
+unfolding siftedFamilies
+sifted-front b fs = take-append-seam (leftFamilies b fs) (drop (length (leftFamilies b fs)) fs)
+
+-- what the sifting leaves of a list of families
+pub sifted-left : (n b : ℕ) (fs : List ℕ) → Within n fs → requirementsIn (take (length (leftFamilies b fs)) (siftedFamilies b fs)) ≡ unmetBy n b (requirementsIn fs)
+sifted-left n b fs w = ap requirementsIn (sifted-front b fs) ∙ families-left n b fs w
+
+-- what stays live, for requirements of at most 64 states
+module _ (n b : ℕ) (fits : n ≤ 64) (bits fs : List ℕ) (w : Within n fs) where
+  pub pairs-next : livePairs n (bits ++ (b ∷ [])) ≡ unmetBy n b (livePairs n bits)
+  unfolding livePairs
+  pairs-next =
+      let e : min n 64 ≡ n = omega arith in
+      unmet-next (min n 64) b bits (pairs (statesFrom 0 (min n 64)))
+      ∙ ap (λ (k : ℕ). unmetBy k b (unmetIn (min n 64) bits (pairs (statesFrom 0 (min n 64))))) e
+
+  pub live-left : liveIn n (bits ++ (b ∷ [])) (take (length (leftFamilies b fs)) (siftedFamilies b fs)) ≡ unmetBy n b (liveIn n bits fs)
+  live-left = ap₂ _++_ pairs-next (sifted-left n b fs w) ∙ sym (unmet-append n b (livePairs n bits) (requirementsIn fs))
