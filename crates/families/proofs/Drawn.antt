@@ -20,7 +20,7 @@ map-same f g h [] = refl
 map-same f g h (t ∷ ts) = ap₂ (λ (r : Requirement) (rs : List Requirement). r ∷ rs) (h t) (map-same f g h ts)
 
 -- states from n on are no members
-none-high : (n m : ℕ) → ((t : ℕ) → n ≤ t → has m t ≡ 0) → (r a : ℕ) → n ≤ a → inside m (statesFrom a r) ≡ []
+pub none-high : (n m : ℕ) → ((t : ℕ) → n ≤ t → has m t ≡ 0) → (r a : ℕ) → n ≤ a → inside m (statesFrom a r) ≡ []
 unfolding inside statesFrom
 none-high n m h zero a l = refl
 none-high n m h (suc r) a l = inside-out m a (statesFrom (suc a) r) (h a l) ∙ none-high n m h r (suc a) (omega arith)

@@ -1,0 +1,2 @@
+pub mod NextBit
+pub mod Counters

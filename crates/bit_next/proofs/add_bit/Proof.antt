@@ -1,0 +1,65 @@
+-- `bit_next::add_bit` meets its contract.
+use Prim.Native.Nat.{min}
+use Rattle.rules.specs.OneBit.{complemented}
+use Rattle.choice.specs.Pass.{builtBy}
+use Rattle.choice.specs.declared.Built.{Built}
+use Rattle.bit_live.specs.Live.{liveIn}
+use Rattle.bit_next.specs.NextBit.{nextBy}
+use Prim.Native.Nat.{ℕ, zero, suc, _≤_, _<_, _-_, _+_, _*_, _^_}
+use mathlib.Core.Path.{_≡_, refl, sym, ap, _∙_}
+use mathlib.Core.Logic.{⊎-elim}
+use mathlib.Core.List.{List, [], _∷_, _++_}
+use mathlib.Core.Bool.{Bool, true, false}
+use native.Mathlib.Omega.{arith}
+use native.Mathlib.Numerals.{add-one}
+use borrow.Author.Needs.{needs}
+use borrow.Author.Tests.{lt-ltb, le-ltb, le-leb, lt-leb, eq-eqb, ne-eqb, not-true, not-false}
+use lib.ListN.{length, take, drop, getD, set}
+use borrow.Author.Needs.{needs}
+use Rattle.bit_next.proofs.add_bit.Statement.{statement}
+use Rattle.bit_next.proofs.add_bit.Tie as tie
+use Rattle.bit_next.proofs.add_bit.Reads as reads
+use Rattle.bit_next.proofs.add_bit.Lts as lts
+use Rattle.bit_live.proofs.sift_families.Reads as sift-families-reads
+use Rattle.bit_live.proofs.start_live.Reads as start-live-reads
+use Rattle.bit_passes.proofs.build_bit.Reads as build-bit-reads
+use Rattle.choice.proofs.complement.Reads as complement-reads
+
+start-live-requires : tie.Need-start-live-requires
+start-live-requires c κs = search needs
+
+build-bit-requires : tie.Need-build-bit-requires
+build-bit-requires c κs = search needs
+
+complement-requires : tie.Need-complement-requires
+complement-requires c κs = search needs
+
+sift-families-requires : tie.Need-sift-families-requires
+sift-families-requires c κs = search needs
+
+same-length : tie.Need-same-length
+same-length c = search needs
+
+returns : tie.Need-returns
+unfolding nextBy
+returns c =
+    let a = c .before .before .before .before .before .before .before .before .before .before .before .args in
+    let e = c .before .before .before .before .before .build-bit .ensures ∙ ap (builtBy (a .n) (liveIn (a .n) (a .bits .now) (a .fs .now))) (c .before .before .before .before .before .before .before .start-live .ensures) in
+    record {
+      is = c .before .before .before .before .complement .ensures ∙ ap (λ (x : Built). complemented (min (a .n) 64) (x .bit)) e;
+      took = ap (λ (x : Built). x .passes) e;
+      looked = ap (λ (x : Built). x .looks) e;
+      leaves = c .before .before .sift-families .ensures .0;
+      sifts = c .before .before .sift-families .ensures .1;
+    }
+
+pub add-bit-spec : {M : Type 1} → statement M
+add-bit-spec =
+    tie.close
+    (tie.spec
+    start-live-requires
+    build-bit-requires
+    complement-requires
+    sift-families-requires
+    same-length
+    returns)
