@@ -1,3 +1,5 @@
 pub mod Parts
 pub mod Inside
 pub mod Drawn
+pub mod Words
+pub mod Runs
