@@ -14,6 +14,10 @@ drew-words {came} {ws} {is} {k} d = rw (d .holds) (take-at ws (drop k came) k (s
 pub drew-length : {came ws is : List ℕ} {k : ℕ} → k ≤ length came → Drew came ws k is → length is ≡ length came
 drew-length {came} {ws} {is} {k} h d = ap length (d .holds) ∙ omega (arith, length-append ws (drop k came), length-drop k came, d .count)
 
+-- the words fit
+pub drew-fits : {came ws is : List ℕ} {k : ℕ} → Drew came ws k is → k ≤ length is
+drew-fits {came} {ws} {is} {k} d = omega (arith, ap length (d .holds), length-append ws (drop k came), d .count)
+
 -- none, and the words that stand there
 pub drew-none : (came : List ℕ) (k : ℕ) → k ≤ length came → Drew came (take k came) k came
 drew-none came k h = record { count = sym (length-take-le k came h); holds = sym (take-append-drop k came) }

@@ -8,7 +8,7 @@ use lib.Dec.{eqb}
 use lib.ListN.{length, drop, replicate, length-replicate}
 use Rattle.rules.specs.Limits.{most-bits, most-asked}
 use Rattle.rules.specs.Requirements.{requirements}
-use Rattle.rules.specs.Code.{Coding, coded, uncoded, build, coding, wideEnough, unmet, unmetFrom, no-bit}
+use Rattle.rules.specs.Code.{Coding, coded, uncoded, build, coding, wideEnough, unmet, unmetFrom}
 use Rattle.rules.specs.declared.Requirement.{Requirement}
 use Rattle.rules.specs.declared.Listing.{Listing}
 use Rattle.rules.specs.declared.Encoding.{Encoding}
@@ -42,7 +42,7 @@ module _ (t : Listing) (f : fair t ≡ true) where
     pub as-many-asked : length cards ≡ length (requirements t)
     as-many-asked = as-many ∙ as-many-cards t f
 
-    pub begun : (m : ℕ) (by : List ℕ) → m ≡ mostOf t → by ≡ replicate most-asked no-bit
+    pub begun : (m : ℕ) (by : List ℕ) → m ≡ mostOf t → length by ≡ most-asked
         → Begun blocks (t .head .states) m cards by (replicate most-bits 0)
     begun m by em eb = record {
       ready = subst (Ready (t .head .states)) (sym cards-show) record {
@@ -55,7 +55,7 @@ module _ (t : Listing) (f : fair t ≡ true) where
       numbers = λ i h. rw p (card-number t f i (omega (arith, as-many)));
       width = rw em (most-few t (fair-grants t f .limits .few-bits));
       room = length-replicate {A = ℕ} most-bits 0;
-      blank = eb;
+      places = eb;
     }
 
   -- ---- what a run came to, for the requirements of t
@@ -89,12 +89,12 @@ module _ (t : Listing) (f : fair t ≡ true) where
         width = width;
         bits = bits;
         asked = asked;
-        by = by;
+        unmet = live;
         passes = passes;
         looks = looks;
       } (encodedAs t (coding t))
       unfolding encodedAs
-      wide-enough asked k h = rw (code-is false h, d .wide, d .shown, drop-replicate (length (d .code .bits)) most-bits 0, d .noted, d .took, d .looked, k, e) refl
+      wide-enough asked k h = rw (code-is false h, d .wide, d .shown, drop-replicate (length (d .code .bits)) most-bits 0, ← left-unmet, d .took, d .looked, k) refl
 
 -- ---- which of the two a run came to
 

@@ -5,23 +5,23 @@ use Prim.Native.Nat.{ℕ, suc, _+_, _-_, _*_, _^_, _≤_, _<_}
 use native.Mathlib.Nat.{mul-le-mul, zero-add}
 use native.Mathlib.Numerals.{add-one}
 use native.Mathlib.Omega.{arith}
-use lib.ListN.{length, take, drop, set, length-map, length-take, length-append, length-set, length-drop, length-replicate, take-append-drop}
+use lib.ListN.{length, take, drop, set, length-map, length-take, length-append, length-set, length-drop, take-append-drop}
 use lib.Seq.{drop-drop, take-append-seam, take-suc-set, drop-set-lt, take-length, length-take-le}
 use Rattle.rules.specs.Limits.{most-bits, most-asked}
 use Rattle.rules.specs.OneBit.{Bit, newBit}
-use Rattle.rules.specs.Code.{Coding, coded, uncoded, build, unmetBy, no-bit}
+use Rattle.rules.specs.Code.{Coding, coded, uncoded, build, unmetBy}
 use Rattle.rules.specs.declared.Requirement.{Requirement}
 use Rattle.rules.specs.declared.Refusal.the-variants.{Stalled}
 use Rattle.rules.proofs.Good.{start-lt}
 use Rattle.rules.proofs.Complement.{new-bit-lt}
 use Rattle.deck.specs.Deck.{requirementOf, drawn}
 use Rattle.moves.proofs.Ready.{Ready}
-use Rattle.sift.specs.Sift.{liveCards, sifted, noted}
+use Rattle.sift.specs.Sift.{liveCards, sifted}
 use Rattle.nextbit.specs.NextBit.{AddedBit, nextBy}
 use Rattle.nextbit.proofs.NextBit.{next-bit, new-bit-few}
 use Rattle.nextbit.proofs.Live.{leftOf, left-all, left-count, left-good, left-next, live-count, live-drawn}
 use Rattle.codes.specs.Build.{Begun, Done}
-use Rattle.codes.proofs.Notes.{Shown, shown-none, shown-next, shown-all, noted-length}
+use Rattle.codes.proofs.Notes.{noted-length}
 use Rattle.codes.proofs.Building.{joinedTo, build-last, build-done, build-more, build-stalled}
 
 empty : (l : List ℕ) → length l ≡ 0 → l ≡ []
@@ -40,7 +40,6 @@ pub record Running (blocks : List ℕ) (n most : ℕ) (cs bits₀ cards by bits 
   pub count : live ≡ length (leftOf blocks n (take width bits) cs)
   pub front : take live cards ≡ leftOf blocks n (take width bits) cs
   pub places : length by ≡ most-asked
-  pub shown : Shown blocks n (take width bits) cs by
   pub few-passes : passes ≤ width * 2 ^ 21
   pub few-looks : looks ≤ width * 2 ^ 44
   -- the rest of the rule from here gives the whole code
@@ -61,8 +60,7 @@ module _ (blocks : List ℕ) (n most : ℕ) (cs by₀ bits₀ : List ℕ) (begun
         pile = refl;
         count = ap length (sym all);
         front = take-length cs ∙ sym all;
-        places = ap length (begun .blank) ∙ length-replicate most-asked no-bit;
-        shown = subst (Shown blocks n [] cs) (sym (begun .blank)) (shown-none blocks n most-asked cs (begun .few));
+        places = begun .places;
         few-passes = omega arith;
         few-looks = omega arith;
         rest =
@@ -161,13 +159,6 @@ module _ (blocks : List ℕ) (n most : ℕ) (cs by₀ bits₀ : List ℕ) (begun
           let x : List ℕ = drop (length a) (take live cards) in
           ap (λ (q : List ℕ). take (length a) (q ++ drop live cards)) e ∙ ap (take (length a)) (append-assoc a x (drop live cards)) ∙ take-append-seam a (x ++ drop live cards)
 
-      shown-on : width < most → Shown blocks n (take width bits ++ (b ∷ [])) cs by₁
-      shown-on h =
-          let s = shown-next blocks n (take width bits) cs by (λ i q. begun .numbers i q ∙ sym (zero-add i)) (begun .ready .good) b fits (run .shown) in
-          let e : noted blocks b (length (take width bits)) (leftOf blocks n (take width bits) cs) by ≡ by₁ =
-          ap₂ (λ (k : ℕ) (x : List ℕ). noted blocks b k x by) (bits-length h) (sym (run .front)) ∙ sym (added .notes) in
-          subst (Shown blocks n (take width bits ++ (b ∷ [])) cs) e s
-
       rest-on : width < most → (live ≡ 0 → ⊥) → (rest-of ≡ live → ⊥)
           → joinedTo (take width bits ++ (b ∷ [])) (passes + p) (looks + l) (build (most - (width + 1)) n (drawn blocks (leftOf blocks n (take width bits ++ (b ∷ [])) cs))) ≡ build most n (drawn blocks cs)
       unfolding rl
@@ -201,7 +192,6 @@ module _ (blocks : List ℕ) (n most : ℕ) (cs by₀ bits₀ : List ℕ) (begun
                 ∙ leaves-cards
                 ∙ ap (λ (x : List ℕ). leftOf blocks n x cs) (sym (longer h));
             places = ap length (added .notes) ∙ noted-length blocks b width (take live cards) by ∙ run .places;
-            shown = subst (λ (x : List ℕ). Shown blocks n x cs by₁) (sym (longer h)) (shown-on h);
             few-passes = omega (arith, run .few-passes, few-more .0);
             few-looks = omega (arith, run .few-looks, few-more .1);
             rest =
@@ -223,7 +213,6 @@ module _ (blocks : List ℕ) (n most : ℕ) (cs by₀ bits₀ : List ℕ) (begun
           took = refl;
           looked = refl;
           shown = sym (take-append-drop width bits) ∙ ap (λ (x : List ℕ). take width bits ++ x) (run .behind ∙ ap (λ (k : ℕ). drop k bits₀) (sym w));
-          noted = shown-all blocks n (take width bits) cs by most-asked (run .places) (run .shown);
         }
 
     pub running-end : most ≤ width → Done n most (drawn blocks cs) bits₀ width live passes looks bits by

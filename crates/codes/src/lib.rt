@@ -75,7 +75,7 @@ fn encode_fair(t: rules::Listing, blocks: &[u64], cards: &mut [u32]) -> rules::E
     ensures { λ r. ⌜ r ≡ encodedAs t (coding t) ⌝ }
 {
     let asked = cards.len();
-    let mut by = [rules::NO_BIT; rules::MOST_ASKED];
+    let mut by = [0u8; rules::MOST_ASKED];
     let mut bits = [0u64; rules::MOST_BITS];
     let width = t.head.width;
     let most = encoding::most_of(width);
@@ -91,7 +91,7 @@ fn encode_fair(t: rules::Listing, blocks: &[u64], cards: &mut [u32]) -> rules::E
         width: c.width,
         bits,
         asked,
-        by,
+        unmet: c.live,
         passes: c.passes,
         looks: c.looks,
     }

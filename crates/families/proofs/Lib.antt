@@ -3,3 +3,4 @@ pub mod Inside
 pub mod Drawn
 pub mod Words
 pub mod Runs
+pub mod Walking

@@ -28,3 +28,4 @@ pub mod CoverLines
 pub mod Written
 pub mod Good
 pub mod LineNumbers
+pub mod Wholly

@@ -1,9 +1,10 @@
 -- `codes::encode_fair` meets its contract: what the run of bits came to is 01's coding.
-use mathlib.Core.Path.{_≡_, refl, sym, _∙_}
+use mathlib.Core.Path.{_≡_, sym, _∙_}
 use mathlib.Core.Bool.{false}
 use borrow.Author.Needs.{needs}
-use lib.ListN.{replicate}
-use Rattle.rules.specs.Limits.{most-bits}
+use lib.ListN.{replicate, length-replicate}
+use Rattle.rules.specs.Limits.{most-bits, most-asked}
+use Prim.Native.Nat.{ℕ}
 use Rattle.rules.specs.Requirements.{requirements}
 use Rattle.deck.specs.Deck.{drawn}
 use Rattle.codes.specs.Build.{Done}
@@ -36,7 +37,7 @@ build-bits-requires : tie.Need-build-bits-requires
 build-bits-requires c κs =
     let m = c .before .before .before in
     let s = m .before .before .before in
-    begun (s .args .t) (s .pre .0) _ _ (s .pre .1) (s .pre .2) _ _ (m .most-of .ensures) refl
+    begun (s .args .t) (s .pre .0) _ _ (s .pre .1) (s .pre .2) _ _ (m .most-of .ensures) (length-replicate {A = ℕ} most-asked 0)
 
 uncoded-as-requires : tie.Need-uncoded-as-requires
 uncoded-as-requires c κs = search needs
