@@ -13,8 +13,8 @@ use Rattle.rules.specs.Looks.{moveLooks}
 use Rattle.rules.specs.declared.Requirement.{Requirement}
 use Rattle.rules.proofs.Good.{AllGood}
 use Rattle.shares.specs.Table.{shared}
-use Rattle.moves.specs.Moves.{filled, moved, looked}
-use Rattle.moves.proofs.Looks.{looked-looks}
+use Rattle.shares.specs.Moves.{filled, moved, looked}
+use Rattle.shares.proofs.Looks.{looked-looks}
 use Rattle.families.specs.Families.{requirementsIn}
 use Rattle.families.proofs.Walk.{Words}
 use Rattle.move_families.specs.Swayed.{swayedAll, looksAll, doubled}

@@ -8,7 +8,7 @@ use lib.ListN.{length, take}
 use Rattle.rules.specs.OneBit.{start, passes, newBit}
 use Rattle.rules.specs.Code.{unmetBy}
 use Rattle.rules.specs.declared.Requirement.{Requirement}
-use Rattle.moves.proofs.Ready.{Ready}
+use Rattle.shares.proofs.Ready.{Ready}
 use Rattle.choice.specs.Pass.{builtBy}
 use Rattle.choice.proofs.AllPasses.{Same, Few, built-same, bit-few}
 use Rattle.bit_live.specs.Live.{liveIn}

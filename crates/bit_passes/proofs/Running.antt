@@ -11,7 +11,7 @@ use Rattle.rules.specs.Requirements.{pairs}
 use Rattle.rules.specs.declared.Requirement.{Requirement}
 use Rattle.rules.proofs.Unmet.{unmetIn}
 use Rattle.shares.specs.Table.{level}
-use Rattle.moves.specs.Moves.{moved, looked}
+use Rattle.shares.specs.Moves.{moved, looked}
 use Rattle.choice.specs.Pass.{highest, reached, bestOf, going, goOn, passed, passesBy, tallied, builtBy}
 use Rattle.choice.proofs.Tally.{same-built, tally-more, tally-last, tally-none}
 use Rattle.choice.proofs.OneMove.{chosen-lt, go-on}

@@ -29,7 +29,7 @@ fn go_on(n: usize, bits: &[u64], fs: &[u64], w: Way, t: &mut [u32]) -> Way
     let free = w.free;
     let s = choose(n, free, t);
     let a = sets::flipped(b, s);
-    let level = reach(w.level, moves::level_at(t, s));
+    let level = reach(w.level, shares::level_at(t, s));
     let looks = bit_live::move_live(n, bits, fs, b, s, t);
     let best = w.best;
     Way {

@@ -16,7 +16,7 @@ use Rattle.shares.specs.Table.{level}
 use Rattle.choice.specs.Pass.{passed, passesBy, builtBy}
 use Rattle.choice.specs.declared.Passed.{Passed}
 use Rattle.choice.specs.declared.Built.{Built}
-use Rattle.moves.proofs.Ready.{Ready}
+use Rattle.shares.proofs.Ready.{Ready}
 use Rattle.choice.proofs.Highest.{same-ltb}
 use Rattle.choice.proofs.OnePass.{OnePass, pass-is, pass-looks}
 

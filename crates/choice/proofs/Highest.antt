@@ -13,7 +13,7 @@ use Rattle.rules.specs.OneBit.{rather, before, choice}
 use Rattle.rules.specs.declared.Requirement.{Requirement}
 use Rattle.choice.specs.Pass.{highest}
 use Rattle.shares.proofs.Either.{either}
-use Rattle.moves.proofs.Shows.{Shows}
+use Rattle.shares.proofs.Shows.{Shows}
 
 -- two comparisons that say the same: the numbers of one differ as those of the other do
 pub same-ltb : (a b c d : ℕ) → a + d ≡ b + c → ltb a b ≡ ltb c d

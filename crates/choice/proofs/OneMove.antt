@@ -6,7 +6,7 @@ use native.Mathlib.Omega.{arith}
 use lib.ListN.{getD}
 use Rattle.sets.specs.Sets.{flip}
 use Rattle.rules.specs.declared.Requirement.{Requirement}
-use Rattle.moves.specs.Moves.{moved, looked}
+use Rattle.shares.specs.Moves.{moved, looked}
 use Rattle.choice.specs.Pass.{Going, highest, reached, bestOf, going, goOn, goMoves}
 use Rattle.choice.proofs.Highest.{highest-lt}
 use Rattle.choice.specs.declared.Passed.{Passed}

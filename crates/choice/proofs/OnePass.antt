@@ -16,13 +16,13 @@ use Rattle.rules.proofs.Passes.{met-most}
 use Rattle.rules.proofs.FourLooks.{four-of-a-pass, looksEach, looks-each}
 use Rattle.rules.proofs.Good.{AllGood}
 use Rattle.shares.specs.Table.{level}
-use Rattle.moves.specs.Moves.{filled, looked}
+use Rattle.shares.specs.Moves.{filled, looked}
 use Rattle.choice.specs.Pass.{highest, Going, reached, bestOf, goOn, goMoves, setOut, passed}
 use Rattle.choice.specs.declared.Passed.{Passed}
-use Rattle.moves.proofs.Ready.{Ready}
+use Rattle.shares.proofs.Ready.{Ready}
 use Rattle.shares.proofs.Either.{either}
-use Rattle.moves.proofs.Looks.{looked-looks}
-use Rattle.moves.proofs.Shows.{Shows, shows-filled, shows-moved}
+use Rattle.shares.proofs.Looks.{looked-looks}
+use Rattle.shares.proofs.Shows.{Shows, shows-filled, shows-moved}
 use Rattle.choice.proofs.Highest.{highest-lt, highest-choice}
 use Rattle.choice.proofs.Better.{better, better-first, better-second, better-same, better-regroup, kept-more, kept-better}
 

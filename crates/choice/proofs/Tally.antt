@@ -1,16 +1,14 @@
 -- Passes, as a loop counts them: what is counted so far, and what the passes from here on add.
-use mathlib.Core.Path.{_≡_, refl, sym, ap, ap₂, _∙_}
+use mathlib.Core.Path.{_≡_, refl, sym, ap, _∙_}
 use mathlib.Core.Bool.{Bool, cond}
 use mathlib.Core.List.{List}
-use Prim.Native.Nat.{ℕ, suc, _+_, _-_, _%_, _^_, _≤_, _<_, min}
+use Prim.Native.Nat.{ℕ, suc, _+_, _-_, _%_, _^_, _≤_, _<_}
 use native.Mathlib.Nat.{add-comm}
 use native.Mathlib.Omega.{arith}
-use lib.ListN.{length, length-map}
 use borrow.Author.Tests.{lt-ltb, le-ltb}
 use Rattle.rules.specs.declared.Requirement.{Requirement}
 use Rattle.shares.specs.Table.{level}
-use Rattle.deck.specs.Deck.{requirementOf, drawn}
-use Rattle.choice.specs.Pass.{passed, afterPass, passesBy, tallied, builtBy}
+use Rattle.choice.specs.Pass.{passed, afterPass, passesBy, tallied}
 use Rattle.choice.specs.declared.Passed.{Passed}
 use Rattle.choice.specs.declared.Built.{Built}
 
@@ -53,9 +51,3 @@ pub tally-none : (n : ℕ) (rs : List Requirement) (b p l left : ℕ) → left �
     → _≡_ {A = Built} (record { bit = b; passes = p; looks = l }) (tallied p l (passesBy left n rs b))
 tally-none n rs b p l left h hp hl =
     same-built b _ _ _ _ (omega arith) (omega arith) ∙ sym (ap (tallied p l) (ap (λ (k : ℕ). passesBy k n rs b) h ∙ passes-none n rs b))
-
--- the whole, over cards
-pub built-is : (blocks cards : List ℕ) (n m b : ℕ) → m ≡ min n 64 → tallied 0 0 (passesBy (length cards + 1) m (drawn blocks cards) b) ≡ builtBy n (drawn blocks cards) b
-unfolding builtBy
-built-is blocks cards n m b e =
-    ap₂ (λ (k j : ℕ). tallied 0 0 (passesBy (k + 1) j (drawn blocks cards) b)) (sym (length-map cards (requirementOf blocks))) e

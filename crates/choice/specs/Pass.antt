@@ -8,7 +8,7 @@ use Rattle.sets.specs.Sets.{has, everyone, flip}
 use Rattle.rules.specs.OneBit.{rather}
 use Rattle.rules.specs.declared.Requirement.{Requirement}
 use Rattle.shares.specs.Table.{level, less}
-use Rattle.moves.specs.Moves.{filled, moved, looked}
+use Rattle.shares.specs.Moves.{filled, moved, looked}
 use Rattle.choice.specs.declared.Passed.{Passed}
 use Rattle.choice.specs.declared.Built.{Built}
 use Rattle.choice.specs.declared.Way.{Way}

@@ -38,7 +38,7 @@ pub fn choose(n: usize, free: u64, t: &[u32]) -> usize
     let mut rest = sets::without_lowest(all);
     while rest != 0 {
         let i = sets::lowest(rest);
-        if moves::level_at(t, r) < moves::level_at(t, i) {
+        if shares::level_at(t, r) < shares::level_at(t, i) {
             r = i;
         }
         rest = sets::without_lowest(rest);

@@ -1,96 +1,120 @@
--- A fair listing is encoded: its cards begin a run of bits, and what the run comes to is 01's coding.
+-- A fair listing is encoded: its families begin a run of bits, and what the run comes to is 01's coding.
 use mathlib.Core.Path.{_≡_, refl, sym, ap, ap₂, _∙_, subst}
 use mathlib.Core.Bool.{Bool, true, false, cond, not, _&&_}
-use mathlib.Core.List.{List}
-use Prim.Native.Nat.{ℕ, zero, suc, _-_}
+use mathlib.Core.List.{List, [], _++_}
+use Prim.Native.Nat.{ℕ, zero, suc, _-_, _≤_, min}
 use native.Mathlib.Omega.{arith}
 use lib.Dec.{eqb}
 use lib.ListN.{length, drop, replicate, length-replicate}
+use Rattle.sets.specs.Sets.{statesFrom}
 use Rattle.rules.specs.Limits.{most-bits, most-asked}
-use Rattle.rules.specs.Requirements.{requirements}
-use Rattle.rules.specs.Code.{Code, coded, uncoded, build, coding, wideEnough, unmet, unmetFrom, no-bit}
+use Rattle.rules.specs.Requirements.{pairs, requirements}
+use Rattle.rules.specs.Code.{Code, coded, uncoded, build, coding, unmet, unmetFrom}
 use Rattle.rules.specs.declared.Requirement.{Requirement}
 use Rattle.rules.specs.declared.Listing.{Listing}
 use Rattle.rules.specs.declared.Encoding.{Encoding}
 use Rattle.rules.specs.declared.Verdict.{Verdict}
 use Rattle.rules.specs.declared.Refusal.the-variants.{TooWide}
-use Rattle.rules.proofs.Built.{mostOf, most-few}
-use Rattle.deck.specs.Deck.{drawn}
-use Rattle.moves.proofs.Ready.{Ready}
+use Rattle.rules.proofs.Unmet.{unmet-all}
+use Rattle.rules.proofs.Good.{AllGood}
 use Rattle.fair.specs.Fair.{fair}
-use Rattle.blocks.specs.BlockTable.{Laid}
-use Rattle.cards.specs.Cards.{cardsOf, numbered}
 use Rattle.fair.proofs.Limits.{fair-grants}
-use Rattle.cards.proofs.Dealing.{numbered-length}
-use Rattle.cards.proofs.FairListings.{few-cards, few-requirements, good-requirements, as-many-cards, drawn-requirements, card-number}
+use Rattle.fair.proofs.FairListings.{few-requirements, good-requirements}
+use Rattle.families.specs.Families.{requirementsIn}
+use Rattle.move_pairs.specs.Pairs.{livePairs}
+use Rattle.bit_live.specs.Live.{liveIn}
+use Rattle.bit_live.proofs.Next.{Within}
 use Rattle.encoding.specs.Encode.{noEncoding, encodedAs}
-use Rattle.codes.specs.Build.{Begun, Done}
+use Rattle.code_drawing.specs.Drawing.{familiesOf}
+use Rattle.code_drawing.proofs.Requirements.{families-are}
+use Rattle.code_drawing.proofs.Within.{families-within}
+use Rattle.codes.specs.Build.{Asked, Begun, Done, answer, encodedFor}
 
 drop-replicate : (k w v : ℕ) → drop k (replicate w v) ≡ replicate (w - k) v
 drop-replicate zero w v = let e : w ≡ w - 0 = omega arith in ap (λ (j : ℕ). replicate j v) e
 drop-replicate (suc k) zero v = let e : 0 ≡ 0 - suc k = omega arith in ap (λ (j : ℕ). replicate j v) e
 drop-replicate (suc k) (suc w) v = let e : w - k ≡ suc w - suc k = omega arith in drop-replicate k w v ∙ ap (λ (j : ℕ). replicate j v) e
 
+-- ---- the requirements of a fair listing
+
 module _ (t : Listing) (f : fair t ≡ true) where
-  module _ (blocks cards : List ℕ) (l : Laid t blocks) (p : cards ≡ numbered 0 (cardsOf t)) where
-    pub cards-show : drawn blocks cards ≡ requirements t
-    cards-show = ap (drawn blocks) p ∙ drawn-requirements t f blocks l
+  pub drawn-live : liveIn (t .head .states) [] (familiesOf t) ≡ requirements t
+  unfolding livePairs
+  drawn-live =
+      let n : ℕ = t .head .states in
+      let m : min n 64 ≡ n = omega (arith, fair-grants t f .limits .few-states) in
+      ap (λ (rs : List Requirement). rs ++ requirementsIn (familiesOf t)) (unmet-all (min n 64) (pairs (statesFrom 0 (min n 64))) ∙ ap (λ (k : ℕ). pairs (statesFrom 0 k)) m)
+      ∙ families-are t f
 
-    as-many : length cards ≡ length (cardsOf t)
-    as-many = ap length p ∙ numbered-length 0 (cardsOf t)
+-- ---- a run begins
 
-    pub as-many-asked : length cards ≡ length (requirements t)
-    as-many-asked = as-many ∙ as-many-cards t f
+pub begun : (n width : ℕ) (fs : List ℕ) → Asked n width fs → (m : ℕ) → m ≡ cond (eqb width 0) most-bits width → Begun n m fs (replicate most-bits 0)
+begun n width fs a m e = record { drawn = a .drawn; width = rw e (go (eqb width 0)); room = length-replicate {A = ℕ} most-bits 0 }
+  where
+    go : (b : Bool) → cond b most-bits width ≤ most-bits
+    go true = omega arith
+    go false = a .narrow
 
-    pub begun : (m : ℕ) (by : List ℕ) → m ≡ mostOf t → by ≡ replicate most-asked no-bit
-        → Begun blocks (t .head .states) m cards by (replicate most-bits 0)
-    begun m by em eb = record {
-      ready = subst (Ready (t .head .states)) (sym cards-show) record {
+-- ---- what a run came to
+
+module _ (n width : ℕ) (rs : List Requirement) (m : ℕ) (em : m ≡ cond (eqb width 0) most-bits width)
+    {wide live passes looks : ℕ} {bits : List ℕ} (d : Done n m rs (replicate most-bits 0) wide live passes looks bits) where
+  code : Code
+  code = build m n rs
+
+  -- the answer, by whether the code falls short
+  by-code : (a : Bool) → a ≡ (eqb width 0 && not (eqb live 0)) → cond a (noEncoding (Verdict.Refused TooWide 0)) (answer n rs code) ≡ encodedFor n width rs
+  unfolding encodedFor code
+  by-code a h =
+      ap (λ (b : Bool). cond b (noEncoding (Verdict.Refused TooWide 0)) (answer n rs code)) (h ∙ ap (λ (k : ℕ). eqb width 0 && not (eqb k 0)) (d .left))
+      ∙ ap (λ (k : ℕ). cond (eqb width 0 && not (eqb (length (unmetFrom 0 n (build k n rs .bits) rs)) 0)) (noEncoding (Verdict.Refused TooWide 0)) (answer n rs (build k n rs))) em
+
+  pub too-wide : true ≡ (eqb width 0 && not (eqb live 0)) → noEncoding (Verdict.Refused TooWide 0) ≡ encodedFor n width rs
+  too-wide h = by-code true h
+
+  pub wide-enough : (asked : ℕ) → asked ≡ length rs → false ≡ (eqb width 0 && not (eqb live 0)) → _≡_ {A = Encoding} record {
+    verdict = Verdict.Accepted;
+    width = wide;
+    bits = bits;
+    asked = asked;
+    unmet = live;
+    passes = passes;
+    looks = looks;
+  } (encodedFor n width rs)
+  unfolding code
+  wide-enough asked k h = rw (d .wide, d .shown, drop-replicate (length (code .bits)) most-bits 0, d .left, d .took, d .looked, k) (by-code false h)
+
+-- ---- a fair listing
+
+module _ (t : Listing) (f : fair t ≡ true) where
+  pub encoded-for : encodedFor (t .head .states) (t .head .width) (requirements t) ≡ encodedAs t (coding t)
+  unfolding encodedFor encodedAs coding unmet
+  encoded-for = go (eqb (t .head .width) 0 && not (eqb (length (unmet t (c .bits))) 0))
+    where
+      c : Code
+      c = build (cond (eqb (t .head .width) 0) most-bits (t .head .width)) (t .head .states) (requirements t)
+
+      go : (a : Bool) → cond a (noEncoding (Verdict.Refused TooWide 0)) (answer (t .head .states) (requirements t) c) ≡ encodedAs t (cond a (uncoded TooWide) (coded c))
+      go true = refl
+      go false = refl
+
+  pub asked-of : (fs : List ℕ) → fs ≡ familiesOf t → Asked (t .head .states) (t .head .width) fs
+  asked-of fs e = record {
+    drawn = record {
+      ready = record {
         some = fair-grants t f .limits .some-states;
         fits = omega (arith, fair-grants t f .limits .few-states);
-        few = omega (arith, few-requirements t f);
-        good = good-requirements t f;
+        few = omega (arith, few-live);
+        good = subst (AllGood (t .head .states)) (sym live) (good-requirements t f);
       };
-      few = omega (arith, as-many, few-cards t f);
-      numbers = λ i h. rw p (card-number t f i (omega (arith, as-many)));
-      width = rw em (most-few t (fair-grants t f .limits .few-bits));
-      room = length-replicate {A = ℕ} most-bits 0;
-      blank = eb;
-    }
+      within = subst (Within (t .head .states)) (sym e) (families-within t f);
+      few = few-live;
+    };
+    narrow = fair-grants t f .limits .few-bits;
+  }
+    where
+      live : liveIn (t .head .states) [] fs ≡ requirements t
+      live = ap (liveIn (t .head .states) []) e ∙ drawn-live t f
 
-  -- ---- what a run came to, for the requirements of t
-
-  module _ (m : ℕ) (em : m ≡ mostOf t) (rs : List Requirement) (e : rs ≡ requirements t) where
-    code : Code
-    code = build m (t .head .states) rs
-
-    coding-is : coding t ≡ wideEnough t code
-    unfolding coding code
-    coding-is = ap₂ (λ (k : ℕ) (x : List Requirement). wideEnough t (build k (t .head .states) x)) (sym em) (sym e)
-
-    module _ {width live passes looks : ℕ} {bits by : List ℕ} (d : Done (t .head .states) (build m (t .head .states) rs) rs (replicate most-bits 0) width live passes looks bits by) where
-      left-unmet : length (unmet t (code .bits)) ≡ live
-      unfolding unmet code
-      left-unmet = ap (λ (x : List Requirement). length (unmetFrom 0 (t .head .states) (code .bits) x)) (sym e) ∙ sym (d .left)
-
-      code-is : (a : Bool) → a ≡ (eqb (t .head .width) 0 && not (eqb live 0)) → coding t ≡ cond a (uncoded TooWide) (coded code)
-      unfolding coding
-      code-is a h =
-          coding-is
-          ∙ ap (λ (c : Bool). cond c (uncoded TooWide) (coded code)) (ap (λ (k : ℕ). eqb (t .head .width) 0 && not (eqb k 0)) left-unmet ∙ sym h)
-
-      pub too-wide : true ≡ (eqb (t .head .width) 0 && not (eqb live 0)) → noEncoding (Verdict.Refused TooWide 0) ≡ encodedAs t (coding t)
-      unfolding encodedAs
-      too-wide h = sym (ap (encodedAs t) (code-is true h))
-
-      pub wide-enough : (asked : ℕ) → asked ≡ length (requirements t) → false ≡ (eqb (t .head .width) 0 && not (eqb live 0)) → _≡_ {A = Encoding} record {
-        verdict = Verdict.Accepted;
-        width = width;
-        bits = bits;
-        asked = asked;
-        by = by;
-        passes = passes;
-        looks = looks;
-      } (encodedAs t (coding t))
-      unfolding encodedAs code
-      wide-enough asked k h = rw (code-is false h, d .wide, d .shown, drop-replicate (length (code .bits)) most-bits 0, d .noted, d .took, d .looked, k, e) refl
+      few-live : length (liveIn (t .head .states) [] fs) ≤ most-asked
+      few-live = omega (arith, ap length live, few-requirements t f)

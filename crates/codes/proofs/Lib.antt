@@ -1,4 +1,3 @@
-pub mod Notes
 pub mod Building
 pub mod Running
 pub mod Encoded

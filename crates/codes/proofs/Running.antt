@@ -1,95 +1,93 @@
--- A run of bits on its way: the cards that are live, the notes, and that the rest of the rule from here gives the whole code.
+-- A run of bits on its way: what is live, and that the rest of the rule from here gives the whole code.
 use mathlib.Core.Path.{_≡_, refl, sym, ap, ap₂, _∙_, subst}
-use mathlib.Core.List.{List, [], _∷_, _++_, append-assoc}
-use Prim.Native.Nat.{ℕ, suc, _+_, _-_, _*_, _^_, _≤_, _<_}
-use native.Mathlib.Nat.{mul-le-mul, zero-add}
+use mathlib.Core.List.{List, [], _∷_, _++_}
+use Prim.Native.Nat.{ℕ, suc, _+_, _-_, _*_, _%_, _^_, _≤_, _<_}
+use native.Mathlib.Nat.{mul-le-mul, mod-eq-of-lt}
 use native.Mathlib.Numerals.{add-one}
 use native.Mathlib.Omega.{arith}
-use lib.ListN.{length, take, drop, set, length-map, length-take, length-append, length-set, length-drop, length-replicate, take-append-drop}
-use lib.Seq.{drop-drop, take-append-seam, take-suc-set, drop-set-lt, take-length, length-take-le}
+use lib.ListN.{length, take, drop, set, length-set, length-append, take-append-drop}
+use lib.Seq.{drop-drop, take-append-le, take-suc-set, drop-set-lt, take-length, length-take-le}
 use Rattle.rules.specs.Limits.{most-bits, most-asked}
 use Rattle.rules.specs.OneBit.{Bit, newBit}
-use Rattle.rules.specs.Code.{Code, build, unmetBy, no-bit}
+use Rattle.rules.specs.Code.{Code, build, unmetBy}
 use Rattle.rules.specs.declared.Requirement.{Requirement}
-use Rattle.rules.proofs.Good.{start-lt}
-use Rattle.rules.proofs.Complement.{new-bit-lt}
-use Rattle.deck.specs.Deck.{requirementOf, drawn}
-use Rattle.moves.proofs.Ready.{Ready}
-use Rattle.sift.specs.Sift.{liveCards, sifted, noted}
-use Rattle.nextbit.specs.NextBit.{AddedBit, nextBy}
-use Rattle.nextbit.proofs.NextBit.{next-bit, new-bit-few}
-use Rattle.nextbit.proofs.Live.{leftOf, left-all, left-count, left-good, left-next, live-count, live-drawn}
-use Rattle.codes.specs.Build.{Begun, Done}
-use Rattle.codes.proofs.Notes.{Shown, shown-none, shown-next, shown-all, noted-length}
+use Rattle.rules.proofs.Unmet.{unmetIn, unmet-all, unmet-length}
+use Rattle.rules.proofs.Good.{good-left}
+use Rattle.rules.proofs.Gains.{left-count}
+use Rattle.shares.proofs.Ready.{Ready}
+use Rattle.bit_live.specs.Live.{liveIn}
+use Rattle.bit_live.specs.Left.{leftFamilies, siftedFamilies}
+use Rattle.bit_live.proofs.Next.{Within, unmet-next, within-sifted}
+use Rattle.bit_next.specs.NextBit.{AddedBit, nextBy}
+use Rattle.bit_next.proofs.NextBit.{next-bit, new-bit-few, added-live}
+use Rattle.codes.specs.Build.{Begun, DoneAs, Done}
 use Rattle.codes.proofs.Building.{codeAs, joinedTo, joined-nothing, build-last, build-done, build-more}
 
-empty : (l : List ℕ) → length l ≡ 0 → l ≡ []
+empty : {A : Type 0} (l : List A) → length l ≡ 0 → l ≡ []
 empty [] e = refl
 empty (x ∷ xs) e = absurd (omega arith)
 
 sub-zero : (n : ℕ) → n - 0 ≡ n
 sub-zero n = omega arith
 
--- the bits so far, and the cards that they leave
-pub record Running (blocks : List ℕ) (n most : ℕ) (cs bits₀ cards by bits : List ℕ) (width live passes looks : ℕ) : Type 0 where
-  pub within : width ≤ most
+-- as many as are counted modulo 2 ^ 64
+pub few-counted : (k m : ℕ) → k ≤ most-asked → m ≡ k % 2 ^ 64 → m ≡ k
+few-counted k m h e = e ∙ mod-eq-of-lt (omega arith)
+
+-- a front part made anew, of the length that it had
+pub same-words : (k : ℕ) (l front : List ℕ) → length front ≡ length (take k l) → length (front ++ drop k l) ≡ length l
+same-words k l front e = omega (arith, e, length-append front (drop k l), length-append (take k l) (drop k l), ap length (take-append-drop k l))
+
+-- the bits so far, and what they leave live of the requirements rs
+pub record Running (n most : ℕ) (rs : List Requirement) (bits₀ fs bits : List ℕ) (width left live passes looks : ℕ) : Type 0 where
+  pub inside : width ≤ most
   pub long : length bits ≡ most-bits
   pub behind : drop width bits ≡ drop width bits₀
-  pub pile : length cards ≡ length cs
-  pub count : live ≡ length (leftOf blocks n (take width bits) cs)
-  pub front : take live cards ≡ leftOf blocks n (take width bits) cs
-  pub places : length by ≡ most-asked
-  pub shown : Shown blocks n (take width bits) cs by
+  pub words : left ≤ length fs
+  pub within : Within n (take left fs)
+  pub lives : liveIn n (take width bits) (take left fs) ≡ unmetIn n (take width bits) rs
+  pub few : length (liveIn n (take width bits) (take left fs)) ≤ most-asked
+  pub count : live ≡ length (liveIn n (take width bits) (take left fs))
   pub few-passes : passes ≤ width * 2 ^ 21
   pub few-looks : looks ≤ width * 2 ^ 44
   -- the rest of the rule from here gives the whole code
-  pub rest : joinedTo (take width bits) passes looks (build (most - width) n (drawn blocks (leftOf blocks n (take width bits) cs))) ≡ build most n (drawn blocks cs)
+  pub rest : joinedTo (take width bits) passes looks (build (most - width) n (liveIn n (take width bits) (take left fs))) ≡ build most n rs
 
-module _ (blocks : List ℕ) (n most : ℕ) (cs by₀ bits₀ : List ℕ) (begun : Begun blocks n most cs by₀ bits₀) where
-  pub running-start : Running blocks n most cs bits₀ cs by₀ bits₀ 0 (length cs) 0 0
-  running-start =
-      let all : leftOf blocks n [] cs ≡ cs = left-all blocks n cs in
+module _ (n most : ℕ) (fs₀ bits₀ : List ℕ) (begun : Begun n most fs₀ bits₀) where
+  abbrev asked : List Requirement
+  asked = liveIn n [] fs₀
+
+  pub running-start : (live : ℕ) → live ≡ length (liveIn n [] (take (length fs₀) fs₀)) % 2 ^ 64 → Running n most asked bits₀ fs₀ bits₀ 0 (length fs₀) live 0 0
+  running-start live e =
+      let all : take (length fs₀) fs₀ ≡ fs₀ = take-length fs₀ in
+      let few : length (liveIn n [] (take (length fs₀) fs₀)) ≤ most-asked = subst (λ (l : List ℕ). length (liveIn n [] l) ≤ most-asked) (sym all) (begun .drawn .few) in
       record {
-        within = omega arith;
+        inside = omega arith;
         long = begun .room;
         behind = refl;
-        pile = refl;
-        count = ap length (sym all);
-        front = take-length cs ∙ sym all;
-        places = ap length (begun .blank) ∙ length-replicate most-asked no-bit;
-        shown = subst (Shown blocks n [] cs) (sym (begun .blank)) (shown-none blocks n most-asked cs (begun .few));
+        words = omega arith;
+        within = subst (Within n) (sym all) (begun .drawn .within);
+        lives = ap (liveIn n []) all ∙ sym (unmet-all n asked);
+        few = few;
+        count = few-counted _ live few e;
         few-passes = omega arith;
         few-looks = omega arith;
-        rest =
-            ap₂ (λ (k : ℕ) (l : List ℕ). joinedTo [] 0 0 (build k n (drawn blocks l))) (sub-zero most) all
-            ∙ joined-nothing (build most n (drawn blocks cs));
+        rest = ap₂ (λ (k : ℕ) (l : List ℕ). joinedTo [] 0 0 (build k n (liveIn n [] l))) (sub-zero most) all ∙ joined-nothing (build most n asked);
       }
 
-  module _ (cards by bits : List ℕ) (width live passes looks : ℕ) (run : Running blocks n most cs bits₀ cards by bits width live passes looks) where
-    -- the cards that are live, and their requirements
-    left : List ℕ
-    left = leftOf blocks n (take width bits) cs
+  module _ (fs bits : List ℕ) (width left live passes looks : ℕ) (run : Running n most asked bits₀ fs bits width left live passes looks) where
+    -- the requirements that are live
+    rl : List Requirement
+    rl = liveIn n (take width bits) (take left fs)
 
-    live-few : live ≤ length cs
-    unfolding left
-    live-few =
-        let e : length (take live cards) ≡ live = ap length (run .front) ∙ sym (run .count) in
-        omega (arith, length-take live cards, run .pile)
-
-    live-ready : Ready n (drawn blocks (take live cards))
-    unfolding left
+    live-ready : Ready n rl
+    unfolding rl
     live-ready =
-        let e : length (drawn blocks left) ≡ live = length-map left (requirementOf blocks) ∙ sym (run .count) in
-        subst (λ (l : List ℕ). Ready n (drawn blocks l)) (sym (run .front))
-        (record { some = begun .ready .some; fits = begun .ready .fits; few = omega (arith, live-few, begun .few); good = left-good blocks n (take width bits) cs (begun .ready .good) })
+        let r = begun .drawn .ready in
+        record { some = r .some; fits = r .fits; few = omega (arith, run .few); good = rw (run .lives) (good-left n (take width bits) asked (r .good)) }
 
-    module _ (b rest-of p l : ℕ) (prefix by₁ : List ℕ) (added : AddedBit blocks n width (take live cards) by b rest-of p l prefix by₁) where
-      -- the requirements of the live cards; the bit is 01's next one for them
-      rl : List Requirement
-      rl = drawn blocks (take live cards)
-
+    module _ (b left′ p l : ℕ) (fs′ : List ℕ) (added : AddedBit n (take width bits) (take left fs) b left′ p l fs′) where
       new : nextBy n rl ≡ newBit n rl
-      unfolding rl
       new = next-bit n rl live-ready
 
       is : b ≡ newBit n rl .bit
@@ -104,125 +102,107 @@ module _ (blocks : List ℕ) (n most : ℕ) (cs by₀ bits₀ : List ℕ) (begun
       unfolding rl
       looked = added .looked ∙ ap (λ (x : Bit). x .looks) new
 
-      fits : b < 2 ^ n
-      unfolding rl
-      fits = subst (λ (x : ℕ). x < 2 ^ n) (sym is) (new-bit-lt n rl (start-lt n rl (live-ready .good)))
-
       few-more : (p ≤ 2 ^ 21) × (l ≤ 2 ^ 44)
-      unfolding rl
       few-more = let f = new-bit-few n rl live-ready in (omega (arith, took, f .0), omega (arith, looked, f .1))
 
       pub sum-fits : (passes + p < 2 ^ 64) × (looks + l < 2 ^ 64)
       sum-fits =
-          let w : width ≤ 32 = omega (arith, run .within, begun .width) in
-          let x : width * 2 ^ 21 ≤ 32 * 2 ^ 21 = mul-le-mul {n₂ = 32} {m₂ = 2 ^ 21} w (omega arith) in
-          let y : width * 2 ^ 44 ≤ 32 * 2 ^ 44 = mul-le-mul {n₂ = 32} {m₂ = 2 ^ 44} w (omega arith) in
+          let w : width ≤ most-bits = omega (arith, run .inside, begun .width) in
+          let x : width * 2 ^ 21 ≤ most-bits * 2 ^ 21 = mul-le-mul {n₂ = most-bits} {m₂ = 2 ^ 21} w (omega arith) in
+          let y : width * 2 ^ 44 ≤ most-bits * 2 ^ 44 = mul-le-mul {n₂ = most-bits} {m₂ = 2 ^ 44} w (omega arith) in
           (omega (arith, run .few-passes, few-more .0), omega (arith, run .few-looks, few-more .1))
 
-      -- how many of them there are, and how many the bit leaves
-      rl-length : length rl ≡ live
-      unfolding rl
-      rl-length = length-map (take live cards) (requirementOf blocks) ∙ ap length (run .front) ∙ sym (run .count)
-
-      leaves : length (unmetBy n (newBit n rl .bit) rl) ≡ rest-of
-      unfolding rl
-      leaves = ap (λ (x : ℕ). length (unmetBy n x rl)) (sym is) ∙ sym (live-count blocks n b fits (take live cards) (live-ready .good)) ∙ sym (added .leaves)
-
-      -- the rule from here, one bit on
-      here : width < most → joinedTo (take width bits) passes looks (build (suc (most - (width + 1))) n rl) ≡ build most n (drawn blocks cs)
-      unfolding rl
-      here h =
-          let e : suc (most - (width + 1)) ≡ most - width = omega arith in
-          ap₂ (λ (k : ℕ) (l : List ℕ). joinedTo (take width bits) passes looks (build k n (drawn blocks l))) e (run .front) ∙ run .rest
-
-      -- the bits and the cards that they leave, one bit on
+      -- the bits, one bit on
       longer : width < most → take (width + 1) (set bits width b) ≡ take width bits ++ (b ∷ [])
       longer h = ap (λ (k : ℕ). take k (set bits width b)) (add-one width) ∙ take-suc-set bits width b (omega (arith, run .long, begun .width))
 
-      leaves-cards : liveCards blocks b (take live cards) ≡ leftOf blocks n (take width bits ++ (b ∷ [])) cs
-      leaves-cards = ap (liveCards blocks b) (run .front) ∙ left-next blocks n b fits (take width bits) cs (begun .ready .good)
+      -- the live families stand in front, with the others behind them
+      words-left : left′ ≤ length fs′
+      unfolding siftedFamilies
+      words-left =
+          let a : List ℕ = leftFamilies b (take left fs) in
+          omega (arith, added .leaves, ap length (added .sifts), length-append a (drop (length a) (take left fs)))
 
-      bits-length : width < most → length (take width bits) ≡ width
-      bits-length h = length-take-le width bits (omega (arith, run .long, begun .width))
+      pub words-behind : left′ ≤ length (fs′ ++ drop left fs)
+      words-behind = omega (arith, words-left, length-append fs′ (drop left fs))
 
-      front-of : prefix ≡ sifted blocks b (take live cards) → take (length (liveCards blocks b (take live cards))) (prefix ++ drop live cards) ≡ liveCards blocks b (take live cards)
-      unfolding sifted
-      front-of e =
-          let a : List ℕ = liveCards blocks b (take live cards) in
-          let x : List ℕ = drop (length a) (take live cards) in
-          ap (λ (q : List ℕ). take (length a) (q ++ drop live cards)) e ∙ ap (take (length a)) (append-assoc a x (drop live cards)) ∙ take-append-seam a (x ++ drop live cards)
+      front : take left′ (fs′ ++ drop left fs) ≡ take left′ fs′
+      front = take-append-le left′ fs′ (drop left fs) words-left
 
-      shown-on : width < most → Shown blocks n (take width bits ++ (b ∷ [])) cs by₁
-      shown-on h =
-          let s = shown-next blocks n (take width bits) cs by (λ i q. begun .numbers i q ∙ sym (zero-add i)) (begun .ready .good) b fits (run .shown) in
-          let e : noted blocks b (length (take width bits)) (leftOf blocks n (take width bits) cs) by ≡ by₁ =
-          ap₂ (λ (k : ℕ) (x : List ℕ). noted blocks b k x by) (bits-length h) (sym (run .front)) ∙ sym (added .notes) in
-          subst (Shown blocks n (take width bits ++ (b ∷ [])) cs) e s
+      within-on : Within n (take left′ (fs′ ++ drop left fs))
+      within-on =
+          subst (Within n) (ap₂ (λ (k : ℕ) (x : List ℕ). take k x) (sym (added .leaves)) (sym (added .sifts)) ∙ sym front)
+          (within-sifted n b (take left fs) (run .within))
+
+      lives-on : liveIn n (take width bits ++ (b ∷ [])) (take left′ (fs′ ++ drop left fs)) ≡ unmetBy n b rl
+      unfolding rl
+      lives-on =
+          ap (liveIn n (take width bits ++ (b ∷ []))) front
+          ∙ added-live n (take width bits) (take left fs) b left′ p l fs′ (begun .drawn .ready .fits) (run .within) added
 
       rest-on : width < most → (live ≡ 0 → ⊥)
-          → joinedTo (take width bits ++ (b ∷ [])) (passes + p) (looks + l) (build (most - (width + 1)) n (drawn blocks (leftOf blocks n (take width bits ++ (b ∷ [])) cs))) ≡ build most n (drawn blocks cs)
+          → joinedTo (take width bits ++ (b ∷ [])) (passes + p) (looks + l) (build (most - (width + 1)) n (unmetBy n b rl)) ≡ build most n asked
       unfolding rl
       rest-on h some =
-          let m = build-more (take width bits) passes looks (most - (width + 1)) n rl (omega (arith, rl-length)) in
-          let d : drawn blocks (leftOf blocks n (take width bits ++ (b ∷ [])) cs) ≡ unmetBy n b rl =
-          ap (drawn blocks) (sym leaves-cards) ∙ live-drawn blocks n b fits (take live cards) (live-ready .good) in
-          let e : joinedTo (take width bits ++ (b ∷ [])) (passes + p) (looks + l) (build (most - (width + 1)) n (unmetBy n b rl))
-          ≡ joinedTo (take width bits ++ (newBit n rl .bit ∷ [])) (passes + newBit n rl .passes) (looks + newBit n rl .looks) (build (most - (width + 1)) n (unmetBy n (newBit n rl .bit) rl)) =
-          ap (λ (x : ℕ). joinedTo (take width bits ++ (x ∷ [])) (passes + p) (looks + l) (build (most - (width + 1)) n (unmetBy n x rl))) is
-          ∙ ap₂ (λ (x y : ℕ). joinedTo (take width bits ++ (newBit n rl .bit ∷ [])) (passes + x) (looks + y) (build (most - (width + 1)) n (unmetBy n (newBit n rl .bit) rl))) took looked in
-          ap (λ (x : List Requirement). joinedTo (take width bits ++ (b ∷ [])) (passes + p) (looks + l) (build (most - (width + 1)) n x)) d ∙ e ∙ sym m ∙ here h
+          let k : ℕ = most - (width + 1) in
+          let more = build-more (take width bits) passes looks k n rl (omega (arith, run .count)) in
+          let here : joinedTo (take width bits) passes looks (build (suc k) n rl) ≡ build most n asked =
+          (let e : suc k ≡ most - width = omega arith in ap (λ (j : ℕ). joinedTo (take width bits) passes looks (build j n rl)) e ∙ run .rest) in
+          ap (λ (x : ℕ). joinedTo (take width bits ++ (x ∷ [])) (passes + p) (looks + l) (build k n (unmetBy n x rl))) is
+          ∙ ap₂ (λ (x y : ℕ). joinedTo (take width bits ++ (newBit n rl .bit ∷ [])) (passes + x) (looks + y) (build k n (unmetBy n (newBit n rl .bit) rl))) took looked
+          ∙ sym more
+          ∙ here
 
       -- one bit on
-      pub running-more : length prefix ≡ length (take live cards) → width < most → (live ≡ 0 → ⊥)
-          → Running blocks n most cs bits₀ (prefix ++ drop live cards) by₁ (set bits width b) (width + 1) rest-of (passes + p) (looks + l)
-      running-more same h some =
+      pub running-more : (live′ : ℕ) → length fs′ ≡ length (take left fs) → width < most → (live ≡ 0 → ⊥)
+          → live′ ≡ length (liveIn n (take (width + 1) (set bits width b)) (take left′ (fs′ ++ drop left fs))) % 2 ^ 64
+          → Running n most asked bits₀ (fs′ ++ drop left fs) (set bits width b) (width + 1) left′ live′ (passes + p) (looks + l)
+      unfolding rl
+      running-more live′ same h some e =
+          let alive : liveIn n (take (width + 1) (set bits width b)) (take left′ (fs′ ++ drop left fs)) ≡ unmetBy n b rl =
+          ap (λ (x : List ℕ). liveIn n x (take left′ (fs′ ++ drop left fs))) (longer h) ∙ lives-on in
+          let few : length (liveIn n (take (width + 1) (set bits width b)) (take left′ (fs′ ++ drop left fs))) ≤ most-asked =
+          omega (arith, ap length alive, left-count n b rl, run .few) in
           record {
-            within = omega arith;
+            inside = omega arith;
             long = length-set bits width b ∙ run .long;
             behind =
                 drop-set-lt (width + 1) bits width b (omega arith)
                 ∙ sym (drop-drop 1 width bits)
                 ∙ ap (drop 1) (run .behind)
                 ∙ drop-drop 1 width bits₀;
-            pile = length-append prefix (drop live cards) ∙ omega (arith, same, length-take live cards, length-drop live cards, run .pile);
-            count = added .leaves ∙ ap length leaves-cards ∙ ap (λ (x : List ℕ). length (leftOf blocks n x cs)) (sym (longer h));
-            front =
-                ap (λ (k : ℕ). take k (prefix ++ drop live cards)) (added .leaves)
-                ∙ front-of (added .sifts)
-                ∙ leaves-cards
-                ∙ ap (λ (x : List ℕ). leftOf blocks n x cs) (sym (longer h));
-            places = ap length (added .notes) ∙ noted-length blocks b width (take live cards) by ∙ run .places;
-            shown = subst (λ (x : List ℕ). Shown blocks n x cs by₁) (sym (longer h)) (shown-on h);
+            words = words-behind;
+            within = within-on;
+            lives = alive ∙ ap (unmetBy n b) (run .lives) ∙ sym (unmet-next n b (take width bits) asked) ∙ ap (λ (x : List ℕ). unmetIn n x asked) (sym (longer h));
+            few = few;
+            count = few-counted _ live′ few e;
             few-passes = omega (arith, run .few-passes, few-more .0);
             few-looks = omega (arith, run .few-looks, few-more .1);
             rest =
-                ap (λ (x : List ℕ). joinedTo x (passes + p) (looks + l) (build (most - (width + 1)) n (drawn blocks (leftOf blocks n x cs)))) (longer h)
+                ap₂ (λ (x : List ℕ) (rs : List Requirement). joinedTo x (passes + p) (looks + l) (build (most - (width + 1)) n rs)) (longer h) alive
                 ∙ rest-on h some;
           }
 
     -- the run ends: no bit is left, or nothing is live
-    running-done : (k : ℕ) → joinedTo (take width bits) passes looks (build k n (drawn blocks (leftOf blocks n (take width bits) cs))) ≡ build most n (drawn blocks cs)
-        → joinedTo (take width bits) passes looks (build k n (drawn blocks (leftOf blocks n (take width bits) cs))) ≡ codeAs (take width bits) passes looks
-        → Done n (build most n (drawn blocks cs)) (drawn blocks cs) bits₀ width live passes looks bits by
-    running-done k e d =
-        let w : length (take width bits) ≡ width = length-take-le width bits (omega (arith, run .long, run .within, begun .width)) in
-        subst (λ (c : Code). Done n c (drawn blocks cs) bits₀ width live passes looks bits by) (sym d ∙ e) (record {
+    running-done : joinedTo (take width bits) passes looks (build (most - width) n rl) ≡ codeAs (take width bits) passes looks → Done n most asked bits₀ width live passes looks bits
+    unfolding rl
+    running-done d =
+        let w : length (take width bits) ≡ width = length-take-le width bits (omega (arith, run .long, run .inside, begun .width)) in
+        subst (λ (c : Code). DoneAs n c asked bits₀ width live passes looks bits) (sym d ∙ run .rest) (record {
           wide = sym w;
-          left = run .count ∙ left-count blocks n (take width bits) cs;
+          left = run .count ∙ ap length (run .lives) ∙ sym (unmet-length 0 n (take width bits) asked);
           took = refl;
           looked = refl;
           shown = sym (take-append-drop width bits) ∙ ap (λ (x : List ℕ). take width bits ++ x) (run .behind ∙ ap (λ (k : ℕ). drop k bits₀) (sym w));
-          noted = shown-all blocks n (take width bits) cs by most-asked (run .places) (run .shown);
         })
 
-    pub running-end : most ≤ width → Done n (build most n (drawn blocks cs)) (drawn blocks cs) bits₀ width live passes looks bits by
+    pub running-end : most ≤ width → Done n most asked bits₀ width live passes looks bits
     running-end h =
         let e : most - width ≡ 0 = omega arith in
-        running-done (most - width) (run .rest)
-        (ap (λ (k : ℕ). joinedTo (take width bits) passes looks (build k n (drawn blocks (leftOf blocks n (take width bits) cs)))) e ∙ build-last (take width bits) passes looks n (drawn blocks (leftOf blocks n (take width bits) cs)))
+        running-done (ap (λ (k : ℕ). joinedTo (take width bits) passes looks (build k n rl)) e ∙ build-last (take width bits) passes looks n rl)
 
-    pub running-none : live ≡ 0 → Done n (build most n (drawn blocks cs)) (drawn blocks cs) bits₀ width live passes looks bits by
+    pub running-none : live ≡ 0 → Done n most asked bits₀ width live passes looks bits
+    unfolding rl
     running-none h =
-        let e : drawn blocks (leftOf blocks n (take width bits) cs) ≡ [] = ap (drawn blocks) (empty (leftOf blocks n (take width bits) cs) (sym (run .count) ∙ h)) in
-        running-done (most - width) (run .rest)
-        (ap (λ (x : List Requirement). joinedTo (take width bits) passes looks (build (most - width) n x)) e ∙ build-done (take width bits) passes looks (most - width) n)
+        let e : rl ≡ [] = empty rl (sym (run .count) ∙ h) in
+        running-done (ap (λ (x : List Requirement). joinedTo (take width bits) passes looks (build (most - width) n x)) e ∙ build-done (take width bits) passes looks (most - width) n)

@@ -1,15 +1,11 @@
 // The code of a listing: bits until the width is reached or nothing is live.
 ghost use mathlib.Core.Path.{_≡_};
-ghost use mathlib.Core.Bool.{true};
-ghost use Rattle.rules.specs.Code.{build, coding};
-ghost use Rattle.fair.specs.Fair.{fair};
-ghost use Rattle.blocks.specs.BlockTable.{Laid};
-ghost use Rattle.cards.specs.Cards.{cardsOf, numbered};
-ghost use Rattle.deck.specs.Deck.{drawn};
-ghost use Rattle.encoding.specs.Encode.{encodedAs, encoded};
-ghost use Rattle.codes.specs.Build.{Begun, Done};
+ghost use mathlib.Core.List.{[]};
+ghost use Rattle.bit_live.specs.Live.{liveIn};
+ghost use Rattle.encoding.specs.Encode.{encoded};
+ghost use Rattle.codes.specs.Build.{Begun, Asked, Done, encodedFor};
 
-// What a run of bits came to.
+// What a run of bits came to: how many there are, how many requirements they leave live, and what building them took.
 struct Coded {
     width: usize,
     live: usize,
@@ -17,20 +13,14 @@ struct Coded {
     looks: u64,
 }
 
-// Bits for the cards until `most` are built, or nothing is live.
-fn build_bits(
-    blocks: &[u64],
-    cards: &mut [u32],
-    by: &mut [u8],
-    bits: &mut [u64],
-    n: usize,
-    most: usize,
-) -> Coded
-    requires { ⌜ Begun (now blocks) n most (now cards) (now by) (now bits) ⌝ }
-    ensures { λ r. ⌜ Done n (build most n (drawn (now (blocks .entry)) (now (cards .entry)))) (drawn (now (blocks .entry)) (now (cards .entry))) (now (bits .entry)) (r .width) (r .live) (r .passes) (r .looks) (now (bits .exit)) (now (by .exit)) ⌝ }
+// Bits for n states until `most` are built, or nothing is live. Of the families those that are live stand in front after each bit.
+fn build_bits(n: usize, most: usize, fs: &mut [u64], bits: &mut [u64]) -> Coded
+    requires { ⌜ Begun n most (now fs) (now bits) ⌝ }
+    ensures { λ r. ⌜ Done n most (liveIn n [] (now (fs .entry))) (now (bits .entry)) (r .width) (r .live) (r .passes) (r .looks) (now (bits .exit)) ⌝ }
 {
     let mut width: usize = 0;
-    let mut live = cards.len();
+    let mut left = fs.len();
+    let mut live = bit_live::count_live(n, &bits[..width], &fs[..left]);
     let mut passes: u64 = 0;
     let mut looks: u64 = 0;
     while width < most {
@@ -42,10 +32,11 @@ fn build_bits(
                 looks,
             };
         }
-        let a = nextbit::add_bit(blocks, &mut cards[..live], by, n, (width % 256) as u8);
+        let a = bit_next::add_bit(n, &bits[..width], &mut fs[..left]);
         bits[width] = a.bit;
         width += 1;
-        live = a.left;
+        left = a.left;
+        live = bit_live::count_live(n, &bits[..width], &fs[..left]);
         passes += a.passes;
         looks += a.looks;
     }
@@ -57,17 +48,15 @@ fn build_bits(
     }
 }
 
-// The code of a fair listing, whose blocks are laid and whose cards are dealt.
-fn encode_fair(t: rules::Listing, blocks: &[u64], cards: &mut [u32]) -> rules::Encoding
-    requires { ⌜ (fair t ≡ true) × Laid t (now blocks) × (now cards ≡ numbered 0 (cardsOf t)) ⌝ }
-    ensures { λ r. ⌜ r ≡ encodedAs t (coding t) ⌝ }
+// The code of n states and of the families in fs, of that width at most.
+fn encode_families(n: usize, width: usize, fs: &mut [u64]) -> rules::Encoding
+    requires { ⌜ Asked n width (now fs) ⌝ }
+    ensures { λ r. ⌜ r ≡ encodedFor n width (liveIn n [] (now (fs .entry))) ⌝ }
 {
-    let asked = cards.len();
-    let mut by = [rules::NO_BIT; rules::MOST_ASKED];
     let mut bits = [0u64; rules::MOST_BITS];
-    let width = t.head.width;
+    let asked = bit_live::count_live(n, &bits[..0], fs);
     let most = encoding::most_of(width);
-    let c = build_bits(blocks, cards, &mut by, &mut bits, t.head.states, most);
+    let c = build_bits(n, most, fs, &mut bits);
     if encoding::falls_short(width, c.live) {
         return encoding::uncoded_as(rules::Refusal::TooWide);
     }
@@ -76,7 +65,7 @@ fn encode_fair(t: rules::Listing, blocks: &[u64], cards: &mut [u32]) -> rules::E
         width: c.width,
         bits,
         asked,
-        by,
+        unmet: c.live,
         passes: c.passes,
         looks: c.looks,
     }
@@ -86,10 +75,10 @@ fn encode_fair(t: rules::Listing, blocks: &[u64], cards: &mut [u32]) -> rules::E
 pub fn encode(t: rules::Listing) -> rules::Encoding
     ensures { λ r. ⌜ r ≡ encoded t ⌝ }
 {
-    let mut blocks = [0u64; blocks::PLACES];
-    let mut pile = [0u32; rules::MOST_ASKED];
-    match cards::deal_out(t, &mut blocks, &mut pile) {
-        cards::Hand::Unfair => encoding::uncoded_as(rules::Refusal::Limit),
-        cards::Hand::Cards(asked) => encode_fair(t, &blocks, &mut pile[..asked]),
+    if !fair::is_fair(t) {
+        return encoding::uncoded_as(rules::Refusal::Limit);
     }
+    let mut fs = [0u64; code_drawing::WORDS];
+    let words = code_drawing::draw(t, &mut fs);
+    encode_families(t.head.states, t.head.width, &mut fs[..words])
 }

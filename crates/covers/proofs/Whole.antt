@@ -16,7 +16,8 @@ use Rattle.rules.specs.Cover.{cover}
 use Rattle.rules.specs.declared.Head.{Head}
 use Rattle.rules.specs.declared.Row.{Row}
 use Rattle.rules.specs.declared.Listing.{Listing}
-use Rattle.pen.proofs.Growing.{take-one, take-most, joined-more}
+use Rattle.sets.proofs.Places.{take-most}
+use Rattle.pen.proofs.Growing.{take-one, joined-more}
 use Rattle.faces.specs.Faces.{rowText}
 use Rattle.covers.specs.Covers.{rowTexts, countsText, bounded, coverText, Bounded}
 

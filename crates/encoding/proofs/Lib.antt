@@ -1,3 +1,1 @@
-pub mod FirstMet
-pub mod Judgement
 pub mod Answered

@@ -1,26 +1,10 @@
-// What the encoder answers for a listing, and the judgement of one requirement by it.
+// What the encoder answers for a listing: no code and why, how many bits may be built, and whether they are enough.
 ghost use mathlib.Core.Path.{_≡_};
 ghost use mathlib.Core.Bool.{cond, not, _&&_};
 ghost use lib.Dec.{eqb};
 ghost use Rattle.rules.specs.Limits.{most-bits};
-ghost use Rattle.encoding.specs.Encode.{metBy, noEncoding};
+ghost use Rattle.encoding.specs.Encode.{noEncoding};
 ghost use Rattle.rules.specs.declared.Verdict.{Verdict};
-
-// Whether the code meets a requirement; beyond those asked there is none to meet.
-pub fn is_met(e: rules::Encoding, r: rules::RequirementNumber) -> bool
-    ensures { λ m. ⌜ m ≡ metBy e r ⌝ }
-{
-    let k = r.0;
-    let asked = e.asked;
-    if asked <= k {
-        return false;
-    }
-    let by = e.by;
-    if rules::MOST_ASKED <= k {
-        return false;
-    }
-    by[k] != rules::NO_BIT
-}
 
 // No code, and why.
 pub fn uncoded_as(r: rules::Refusal) -> rules::Encoding
@@ -31,7 +15,7 @@ pub fn uncoded_as(r: rules::Refusal) -> rules::Encoding
         width: 0,
         bits: [0u64; rules::MOST_BITS],
         asked: 0,
-        by: [rules::NO_BIT; rules::MOST_ASKED],
+        unmet: 0,
         passes: 0,
         looks: 0,
     }

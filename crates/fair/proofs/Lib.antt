@@ -1,2 +1,4 @@
 pub mod Limits
 pub mod Tables
+pub mod Twin
+pub mod FairListings

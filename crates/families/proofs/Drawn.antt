@@ -15,9 +15,13 @@ use Rattle.families.specs.Families.{without, inside, joined, requirement
 use Rattle.families.proofs.Parts.{has-rest, part-lt, rest-lt}
 use Rattle.families.proofs.Inside.{inside-in, inside-out}
 
-map-same : (f g : ℕ → Requirement) → ((t : ℕ) → f t ≡ g t) → (ts : List ℕ) → map f ts ≡ map g ts
+pub map-same : (f g : ℕ → Requirement) → ((t : ℕ) → f t ≡ g t) → (ts : List ℕ) → map f ts ≡ map g ts
 map-same f g h [] = refl
 map-same f g h (t ∷ ts) = ap₂ (λ (r : Requirement) (rs : List Requirement). r ∷ rs) (h t) (map-same f g h ts)
+
+-- nobody in common stands in the second block
+pub plain-joined : (g t : ℕ) → joined g 0 t ≡ asks g (only t)
+plain-joined g t = ap₂ asks (ap (bitXor g) (and-zero-r g) ∙ xor-zero-r g) (ap (λ (m : ℕ). bitOr m (only t)) (and-zero-r g) ∙ or-zero-l (only t))
 
 -- states from n on are no members
 pub none-high : (n m : ℕ) → ((t : ℕ) → n ≤ t → has m t ≡ 0) → (r a : ℕ) → n ≤ a → inside m (statesFrom a r) ≡ []
@@ -67,7 +71,7 @@ group-drawn n g fits o =
     rw (ne-eqb out 0 o)
     (ap (λ (k : ℕ). map (joined g 0) (inside m (statesFrom 0 k))) e
     ∙ ap (map (joined g 0)) (inside-outside n g m low high (64 - n) n 0 (omega arith))
-    ∙ map-same (joined g 0) (λ s. asks g (only s)) each (outside g (statesFrom 0 n)))
+    ∙ map-same (joined g 0) (λ s. asks g (only s)) (plain-joined g) (outside g (statesFrom 0 n)))
   where
     all-lt : everyone n < 2 ^ n
     all-lt = omega (arith, pow-pos n)
@@ -77,9 +81,6 @@ group-drawn n g fits o =
 
     high : (t : ℕ) → n ≤ t → has (without (without (everyone n) g) g) t ≡ 0
     high t h = has-high n (without (without (everyone n) g) g) t (rest-lt n (without (everyone n) g) g (rest-lt n (everyone n) g all-lt)) h
-
-    each : (t : ℕ) → joined g 0 t ≡ asks g (only t)
-    each t = ap₂ asks (ap (bitXor g) (and-zero-r g) ∙ xor-zero-r g) (ap (λ (m : ℕ). bitOr m (only t)) (and-zero-r g) ∙ or-zero-l (only t))
 
 -- ---- a dichotomy
 

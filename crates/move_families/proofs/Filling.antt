@@ -15,8 +15,8 @@ use Rattle.rules.specs.declared.Requirement.{Requirement}
 use Rattle.rules.proofs.Good.{AllGood}
 use Rattle.shares.specs.Table.{less, raised, weighed, shared}
 use Rattle.shares.proofs.Shares.{isMet, makesOf, breaksOf}
-use Rattle.moves.specs.Moves.{filled}
-use Rattle.moves.proofs.Shows.{length-weighed, length-filled}
+use Rattle.shares.specs.Moves.{filled}
+use Rattle.shares.proofs.Shows.{length-weighed, length-filled}
 use Rattle.families.specs.Families.{without, requirementsOf, requirementsIn}
 use Rattle.move_halves.specs.Halves.{side, back, ones, zeros, worth, halved}
 use Rattle.move_halves.proofs.Modulo.{cancel, sums, both}

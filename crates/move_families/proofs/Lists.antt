@@ -16,9 +16,9 @@ use Rattle.rules.proofs.Good.{Good, AllGood}
 use Rattle.shares.specs.Table.{less, raised, weighed, shared, unshared, lookMask, stepped}
 use Rattle.shares.proofs.Raising.{length-raised}
 use Rattle.shares.proofs.Shares.{isMet, makesOf, breaksOf, share-has, quiet-shares}
-use Rattle.moves.specs.Moves.{moved}
-use Rattle.moves.proofs.Looks.{look-mask}
-use Rattle.moves.proofs.Shows.{raised-at, length-weighed, length-stepped}
+use Rattle.shares.specs.Moves.{moved}
+use Rattle.shares.proofs.Looks.{look-mask}
+use Rattle.shares.proofs.Shows.{raised-at, length-weighed, length-stepped}
 use Rattle.move_halves.proofs.Modulo.{plus, cancel, sums, both}
 use Rattle.move_halves.proofs.Levels.{raised-level}
 

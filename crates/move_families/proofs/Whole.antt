@@ -16,9 +16,9 @@ use Rattle.rules.specs.Requirements.{metCount}
 use Rattle.rules.specs.Looks.{looksAt, moveLooks}
 use Rattle.rules.specs.declared.Requirement.{Requirement}
 use Rattle.rules.proofs.Good.{AllGood}
-use Rattle.moves.specs.Moves.{moved, looked}
-use Rattle.moves.proofs.Looks.{looked-looks}
-use Rattle.moves.proofs.Shows.{length-moved}
+use Rattle.shares.specs.Moves.{moved, looked}
+use Rattle.shares.proofs.Looks.{looked-looks}
+use Rattle.shares.proofs.Shows.{length-moved}
 use Rattle.shares.specs.Table.{raised}
 use Rattle.shares.proofs.Shares.{isMet}
 use Rattle.families.specs.Families.{without, inside, single, joined, requirementsOf, requirementsIn}

@@ -16,7 +16,7 @@ use Rattle.sets.proofs.Members.{has-lt, has-and, has-none, has-only, has-other,
 use Rattle.sets.proofs.Size.{size-flip, size-none}
 use Rattle.shares.specs.Table.{raised}
 use Rattle.shares.proofs.Raising.{length-raised}
-use Rattle.moves.proofs.Shows.{raised-at}
+use Rattle.shares.proofs.Shows.{raised-at}
 use Rattle.move_halves.specs.Halves.{heldBy, held, signed, halvedBy, halved}
 
 -- by at a member, and nothing elsewhere

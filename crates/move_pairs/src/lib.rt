@@ -2,7 +2,7 @@
 ghost use mathlib.Core.Path.{_≡_};
 ghost use Prim.Native.Nat.{_+_, _-_, _%_, _^_};
 ghost use Rattle.sets.specs.Sets.{size};
-ghost use Rattle.moves.specs.Moves.{filled};
+ghost use Rattle.shares.specs.Moves.{filled};
 ghost use Rattle.move_pairs.specs.Pairs.{livePairs, likeOf, othersOf, partnersOf, pairsPut, pairsSwayed, pairsAdded};
 
 // The states below n but s; none where s is not one of them.

@@ -1,15 +1,12 @@
 -- Lists that a loop goes through, one element more at the end: what a loop has written is the text of the elements passed.
 use mathlib.Core.Path.{_≡_, refl, sym, ap, _∙_}
-use mathlib.Core.Bool.{Bool, true, false}
 use mathlib.Core.List.{List, [], _∷_, _++_, map, map-append, append-assoc, append-nil}
-use Prim.Native.Nat.{ℕ, zero, suc, _+_, _<_, min}
+use Prim.Native.Nat.{ℕ, zero, suc, _+_, _<_}
 use native.Mathlib.Nat.{add-zero, zero-add}
 use native.Mathlib.Numerals.{add-one}
 use native.Mathlib.Omega.{arith}
-use lib.Dec.{leb}
 use lib.ListN.{length, take, getD}
-use lib.Seq.{take-suc, take-all}
-use borrow.Author.Tests.{leb-true, leb-false}
+use lib.Seq.{take-suc}
 use Rattle.sets.specs.Sets.{has, statesFrom}
 use Rattle.rules.specs.Text.{nought}
 use Rattle.rules.specs.Report.{joinedLines}
@@ -19,18 +16,6 @@ use Rattle.pen.specs.Pen.{digitsText}
 
 pub take-one {ℓ} : {A : Type ℓ} (l : List A) (i : ℕ) (d : A) → i < length l → take (i + 1) l ≡ take i l ++ (getD l i d ∷ [])
 take-one l i d h = rw add-one (take-suc l i d h)
-
--- a loop over an array goes no further than its length
-pub take-most {ℓ} : {A : Type ℓ} (n k : ℕ) (l : List A) → length l ≡ k → take (min n k) l ≡ take n l
-take-most n k l e = go (leb n k) refl
-  where
-    go : (t : Bool) → leb n k ≡ t → take (min n k) l ≡ take n l
-    go true h =
-        let m : min n k ≡ n = omega (arith, leb-true n k h) in
-        rw m
-    go false h =
-        let b : k < n = leb-false n k h in
-        take-all (min n k) l (omega arith) ∙ sym (take-all n l (omega arith))
 
 -- a byte for each
 pub bytes-of-one : {A : Type 0} (f : A → ℕ) (l : List A) (i : ℕ) (d : A) {b : ℕ} → i < length l → b ≡ f (getD l i d) → map f (take (i + 1) l) ≡ map f (take i l) ++ (b ∷ [])

@@ -1,32 +1,25 @@
 -- What the encoder answers for a sound listing: its code, held whole and within bounds, or 01's refusal.
 use mathlib.Core.Path.{_≡_, refl, sym, ap, _∙_, subst}
-use mathlib.Core.Bool.{true, false}
-use mathlib.Core.Logic.{_↔_}
-use mathlib.Core.List.{map}
-use Prim.Native.Nat.{ℕ, _-_, _≤_, _<_}
+use mathlib.Core.Bool.{true}
+use Prim.Native.Nat.{ℕ, _-_, _≤_}
 use native.Mathlib.Omega.{arith}
-use lib.ListN.{length, getD, replicate, length-map, List·getD-append}
+use lib.ListN.{length, replicate}
 use lib.Seq.{take-append-seam}
-use Rattle.rules.specs.Limits.{most-bits, most-asked}
-use Rattle.rules.specs.Listing.{noRequirement}
-use Rattle.rules.specs.Requirements.{metByCode, requirements}
-use Rattle.rules.specs.Code.{Code, Coding, coded, uncoded, coding, no-bit}
+use Rattle.rules.specs.Limits.{most-bits}
+use Rattle.rules.specs.Requirements.{requirements}
+use Rattle.rules.specs.Code.{Code, Coding, coded, uncoded, coding}
 use Rattle.rules.specs.declared.Listing.{Listing}
 use Rattle.rules.specs.declared.Encoding.{Encoding}
 use Rattle.rules.specs.declared.Verdict.{Verdict}
 use Rattle.rules.specs.declared.Refusal.{Refusal}
 use Rattle.rules.proofs.Sound.{Sound}
-use Rattle.rules.proofs.Most.{most-requirements}
 use Rattle.rules.proofs.Built.{mostOf, most-few, was-built}
 use Rattle.rules.proofs.SoundCode.{code-built}
-use Rattle.moves.proofs.Ready.{sound-ready}
-use Rattle.cards.proofs.FairListings.{sound-fair}
-use Rattle.encoding.specs.Encode.{metFirst, encodedAs, encoded}
-use Rattle.sets.specs.Places.{padded}
-use Rattle.sets.proofs.Places.{map-at, padded-length}
-use Rattle.encoding.proofs.FirstMet.{no-bit-unmet}
+use Rattle.shares.proofs.Ready.{sound-ready}
+use Rattle.fair.proofs.FairListings.{sound-fair}
+use Rattle.encoding.specs.Encode.{encodedAs, encoded}
 use Rattle.encoding.proofs.Answered.{encoded-is}
-use Rattle.nextbit.proofs.Counters.{FewIn, few-counted}
+use Rattle.bit_next.proofs.Counters.{FewIn, few-counted}
 use Rattle.report.specs.Report.{Holds}
 use Rattle.replies.specs.Saying.{Whole}
 
@@ -41,22 +34,13 @@ module _ (t : Listing) (s : Sound t) where
     counters : FewIn (mostOf t) c
     counters = subst (FewIn (mostOf t)) (was-built t c e) (few-counted (mostOf t) (t .head .states) (requirements t) (sound-ready t s))
 
-    noted-unmet : (k : ℕ) → k < length (requirements t) → getD (encodedAs t (coded c) .by) k 0 ≡ no-bit ↔ metByCode (t .head .states) (c .bits) (getD (requirements t) k noRequirement) ≡ false
-    unfolding encodedAs
-    noted-unmet k h =
-        let f = metFirst 0 (t .head .states) (c .bits) in
-        let l : k < length (map f (requirements t)) = omega (arith, length-map (requirements t) f) in
-        let g : getD (padded most-asked no-bit (map f (requirements t))) k 0 ≡ f (getD (requirements t) k noRequirement) =
-        List·getD-append (map f (requirements t)) (replicate (most-asked - length (map f (requirements t))) no-bit) 0 k l ∙ map-at f (requirements t) k noRequirement 0 h in
-        rw g (no-bit-unmet (t .head .states) (getD (requirements t) k noRequirement) (c .bits) (omega (arith, narrow)))
-
     pub held : Holds t c (encodedAs t (coded c))
     unfolding encodedAs
     held = record {
       width = refl;
       bits = take-append-seam (c .bits) (replicate (most-bits - length (c .bits)) 0);
       asked = refl;
-      by = noted-unmet;
+      unmet = refl;
       passes = refl;
       looks = refl;
     }
@@ -69,10 +53,6 @@ module _ (t : Listing) (s : Sound t) where
       is = e;
       holds = held;
       narrow = narrow;
-      few = most-requirements t s;
-      places =
-          padded-length most-asked no-bit (map (metFirst 0 (t .head .states) (c .bits)) (requirements t))
-          (omega (arith, most-requirements t s, length-map (requirements t) (metFirst 0 (t .head .states) (c .bits))));
       few-passes = omega (arith, counters .passes, few-bits);
       few-looks = omega (arith, counters .looks, few-bits);
     }

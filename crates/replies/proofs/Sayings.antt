@@ -2,16 +2,14 @@
 use mathlib.Core.Path.{_≡_, refl, sym, ap, ap₂, _∙_, subst}
 use mathlib.Core.Bool.{Bool, true, false, cond}
 use mathlib.Core.List.{List}
-use mathlib.Core.Logic.{_↔_}
-use Prim.Native.Nat.{ℕ, _-_, _≤_, _<_}
+use Prim.Native.Nat.{ℕ, _≤_, _<_}
 use native.Mathlib.Omega.{arith}
 use borrow.Author.Tests.{leb-true}
 use lib.Dec.{leb}
-use lib.ListN.{length, getD, take, length-append, length-take, List·getD-append}
-use lib.Seq.{length-take-le}
-use Rattle.rules.specs.Listing.{reading, noRequirement, dichotomiesOf}
-use Rattle.rules.specs.Requirements.{requirements, pairsAndGroups, metByCode}
-use Rattle.rules.specs.Code.{uncoded, coding, unmetFrom}
+use lib.ListN.{length, take, length-take}
+use Rattle.rules.specs.Listing.{reading}
+use Rattle.rules.specs.Requirements.{requirements, pairsAndGroups}
+use Rattle.rules.specs.Code.{uncoded, coding, unmetFrom, unmet}
 use Rattle.rules.specs.Cover.{cover}
 use Rattle.rules.specs.Answers.{Reply, says, refuses, onReading, reportOf, coverOf, reportReply}
 use Rattle.rules.specs.declared.Listing.{Listing}
@@ -24,9 +22,15 @@ use Rattle.rules.proofs.Sound.{Sound, accepted-sound, rows-length}
 use Rattle.encoding.specs.Encode.{encoded}
 use Rattle.pen.specs.Pen.{Wrote}
 use Rattle.pen.proofs.Laws.{wrote-all, wrote-length}
-use Rattle.report.specs.Report.{unmetIn, encodedReport}
-use Rattle.report.proofs.Same.{same-report, same-unmet}
-use Rattle.report.proofs.Length.{report-length}
+use Rattle.report.specs.Report.{encodedReport, anyUnmet}
+use Rattle.report.proofs.Same.{same-report, same-judged}
+use Rattle.report.proofs.Length.{report-length, unmet-few}
+use Rattle.fair.specs.Fair.{fair}
+use Rattle.fair.proofs.FairListings.{sound-fair}
+use Rattle.rules.specs.Limits.{most-asked}
+use Rattle.rules.proofs.Good.{AllGood, requirements-good}
+use Rattle.rules.proofs.Most.{most-requirements}
+use Rattle.code_drawing.proofs.Requirements.{all-are}
 use Rattle.covers.specs.Covers.{Bounded}
 use Rattle.covers.proofs.Length.{cover-length}
 use Rattle.replies.specs.Saying.{saying, Whole, textOf, withheld, replyOf, replyTo}
@@ -92,8 +96,27 @@ written text out after n b e h few w =
 -- ---- of a code
 
 module _ (t : Listing) (e : Encoding) (w : Whole t e) where
-  pub report-few : length (encodedReport (t .head .states) e) < 100000
-  report-few = omega (arith, report-length (t .head .states) e (w .sound .head .few-states) (w .narrow) (w .few) (w .few-passes) (w .few-looks))
+  is-fair : fair t ≡ true
+  is-fair = sound-fair t (w .sound)
+
+  good : AllGood (t .head .states) (requirements t)
+  good = requirements-good t (w .sound)
+
+  few-asked : length (requirements t) ≤ most-asked
+  few-asked = most-requirements t (w .sound)
+
+  few-unmet : length (unmet t (w .code .bits)) ≤ most-asked
+  unfolding unmet
+  few-unmet = omega (arith, few-asked, unmet-few 0 (t .head .states) (w .code .bits) (requirements t))
+
+  pub report-few : length (encodedReport t e) < 100000
+  report-few =
+      omega (
+        arith,
+        report-length t e (w .sound .head .few-states) (omega (arith, few-asked, ap length (all-are t is-fair))) (w .narrow) (omega (arith, few-asked, w .holds .asked)) (omega (arith, few-unmet, w .holds .unmet))
+            (w .few-passes)
+            (w .few-looks),
+      )
 
   pub bounded : Bounded (t .head)
   bounded = record { inputs = w .sound .head .few-inputs; outputs = w .sound .head .few-outputs }
@@ -120,7 +143,7 @@ module _ (t : Listing) (e : Encoding) (w : Whole t e) where
   -- 9, or the text
   replied-as : (k : Wanted) (b : Bool) → withheld k t e ≡ b → replyOf k t ≡ cond b (refuses Unmet 0) (says (textOf k t e))
   unfolding replyOf withheld textOf reportReply
-  replied-as Wanted.Report b q = ap (reportOf t) (w .is) ∙ sym (ap says (same-report t (w .code) e (w .holds))) ∙ ap (λ (x : Bool). cond x (refuses Unmet 0) (says (encodedReport (t .head .states) e))) q
+  replied-as Wanted.Report b q = ap (reportOf t) (w .is) ∙ sym (ap says (same-report t is-fair good (w .code) e (w .holds))) ∙ ap (λ (x : Bool). cond x (refuses Unmet 0) (says (encodedReport t e))) q
   replied-as Wanted.Cover b q = cover-as b q
 
   pub is-withheld : (k : Wanted) (b : Bool) → b ≡ withheld k t e → b ≡ true → refuses Unmet 0 ≡ replyOf k t
@@ -129,26 +152,6 @@ module _ (t : Listing) (e : Encoding) (w : Whole t e) where
   pub is-said : (k : Wanted) (b : Bool) → b ≡ withheld k t e → b ≡ false → says (textOf k t e) ≡ replyOf k t
   is-said k b q h = sym (replied-as k false (sym q ∙ h))
 
-  -- the pairs and the groups stand before the dichotomies
-  first-asked : length (pairsAndGroups t) ≡ e .asked - t .dichotomies
-  unfolding requirements
-  first-asked =
-      omega (arith, w .holds .asked, length-append (pairsAndGroups t) (dichotomiesOf t), length-take-le (t .dichotomies) (t .asked) (omega (arith, w .sound .asked, w .sound .few-dichotomies)))
-
-  pub dichotomies-few : t .dichotomies ≤ e .asked
-  unfolding requirements
-  dichotomies-few =
-      omega (arith, w .holds .asked, length-append (pairsAndGroups t) (dichotomiesOf t), length-take-le (t .dichotomies) (t .asked) (omega (arith, w .sound .asked, w .sound .few-dichotomies)))
-
-  at-first : (j : ℕ) → j < length (pairsAndGroups t) → getD (requirements t) j noRequirement ≡ getD (pairsAndGroups t) j noRequirement
-  unfolding requirements
-  at-first j h = List·getD-append (pairsAndGroups t) (dichotomiesOf t) noRequirement j h
-
-  pub first-unmet : length (unmetIn 0 (take (e .asked - t .dichotomies) (e .by))) ≡ unmetFirst
-  first-unmet =
-      ap (λ (k : ℕ). length (unmetIn 0 (take k (e .by)))) (sym first-asked)
-      ∙ ap length (same-unmet (t .head .states) (w .code .bits) (e .by) 0 (pairsAndGroups t) agree)
-      ∙ ap (λ (x : List ℕ). length (unmetFrom 0 (t .head .states) x (pairsAndGroups t))) (sym (w .holds .bits))
-    where
-      agree : (j : ℕ) → j < length (pairsAndGroups t) → getD (e .by) j 0 ≡ 255 ↔ metByCode (t .head .states) (w .code .bits) (getD (pairsAndGroups t) j noRequirement) ≡ false
-      agree j h = rw (← at-first j h) (w .holds .by j (omega (arith, first-asked, dichotomies-few)))
+  -- the pairs and the groups are judged as 01 says
+  pub first-unmet : anyUnmet t e ≡ leb 1 unmetFirst
+  first-unmet = same-judged t is-fair good e

@@ -18,6 +18,8 @@ use Rattle.rules.proofs.Sound.{Sound, accepted-sound}
 use Rattle.rules.proofs.LineNumbers.{refused-line}
 use Rattle.encoding.specs.Encode.{encodedAs}
 use Rattle.report.proofs.Same.{same-report}
+use Rattle.fair.proofs.FairListings.{sound-fair}
+use Rattle.rules.proofs.Good.{requirements-good}
 use Rattle.replies.specs.Saying.{replyTo}
 use Rattle.replies.specs.declared.Wanted.{Wanted}
 use Rattle.replies.proofs.Encodings.{whole-as, held}
@@ -31,7 +33,7 @@ module _ (t : Listing) (s : Sound t) where
   report-as : (a : Coding) → coding t ≡ a → Small (reportOf t a)
   unfolding reportReply
   report-as (coded c) q =
-      subst (λ (x : List ℕ). length x < 100000) (same-report t c (encodedAs t (coded c)) (held t s c q)) (report-few t (encodedAs t (coded c)) (whole-as t s c q))
+      subst (λ (x : List ℕ). length x < 100000) (same-report t (sound-fair t s) (requirements-good t s) c (encodedAs t (coded c)) (held t s c q)) (report-few t (encodedAs t (coded c)) (whole-as t s c q))
   report-as (uncoded r) q = omega arith
 
   cover-as : (a : Coding) → coding t ≡ a → Small (coverOf t a)

@@ -5,7 +5,7 @@ use mathlib.Core.List.{List, _++_}
 use Prim.Native.Nat.{ℕ, _^_, _≤_, _<_}
 use lib.Dec.{leb}
 use lib.ListN.{length, take, drop}
-use Rattle.rules.specs.Limits.{most-bits, most-asked}
+use Rattle.rules.specs.Limits.{most-bits}
 use Rattle.rules.specs.Requirements.{pairsAndGroups}
 use Rattle.rules.specs.Code.{Code, coded, coding, unmetFrom}
 use Rattle.rules.specs.Cover.{cover}
@@ -35,7 +35,7 @@ replyOf Wanted.Cover t = coverOf t (coding t)
 -- the text
 unfoldable pub textOf : Wanted → Listing → Encoding → List ℕ
 unfolding cover encodedReport
-textOf Wanted.Report t e = encodedReport (t .head .states) e
+textOf Wanted.Report t e = encodedReport t e
 textOf Wanted.Cover t e = cover t (take (e .width) (e .bits))
 
 -- whether it is withheld, 9
@@ -58,7 +58,5 @@ pub record Whole (t : Listing) (e : Encoding) : Type 0 where
   pub is : coding t ≡ coded code
   pub holds : Holds t code e
   pub narrow : e .width ≤ most-bits
-  pub few : e .asked ≤ most-asked
-  pub places : length (e .by) ≡ most-asked
   pub few-passes : e .passes < 2 ^ 64
   pub few-looks : e .looks < 2 ^ 64

@@ -31,7 +31,7 @@ fn put_text(out: &mut [u8], wanted: Wanted, t: rules::Listing, e: rules::Encodin
     ensures { λ r. ⌜ Wrote (now (out .entry)) 0 (textOf wanted t e) r (now (out .exit)) ⌝ }
 {
     match wanted {
-        Wanted::Report => report::put_report(out, t.head.states, e),
+        Wanted::Report => report::put_report(out, t, e),
         Wanted::Cover => {
             let bits = e.bits;
             covers::put_cover(out, t, e.width, bits)
@@ -62,14 +62,12 @@ fn write(wanted: Wanted, t: rules::Listing, e: rules::Encoding, out: &mut [u8]) 
     Said::Refused(rules::Refusal::NoRoom, 0)
 }
 
-// Whether a pair or a group requirement is unmet: they stand before the dichotomies.
+// Whether a pair or a group requirement is unmet.
 fn is_ambiguous(t: rules::Listing, e: rules::Encoding) -> bool
     requires { ⌜ Whole t e ⌝ }
     ensures { λ r. ⌜ r ≡ leb 1 (length (unmetFrom 0 (t .head .states) (take (e .width) (e .bits)) (pairsAndGroups t))) ⌝ }
 {
-    let by = e.by;
-    let first = e.asked - t.dichotomies;
-    1 <= report::unmet_count(&by[..first])
+    report::is_any_unmet(t, e)
 }
 
 // Whether what is wanted is refused 9: a report never is.

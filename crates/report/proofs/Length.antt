@@ -4,7 +4,6 @@ use mathlib.Core.Bool.{Bool, true, false}
 use mathlib.Core.List.{List, [], _∷_}
 use Prim.Native.Nat.{ℕ, zero, suc, _+_, _*_, _^_, _≤_, _<_}
 use native.Mathlib.Omega.{arith}
-use lib.Dec.{eqb}
 use lib.ListN.{length, take, length-append, length-map, length-take}
 use Rattle.sets.specs.Sets.{has}
 use Rattle.rules.specs.declared.Encoding.{Encoding}
@@ -12,13 +11,19 @@ use Rattle.rules.specs.declared.StateNumber.{StateNumber}
 use Rattle.rules.specs.declared.RequirementNumber.{RequirementNumber}
 use Rattle.rules.specs.Limits.{most-states, most-bits, most-asked}
 use Rattle.rules.specs.Text.{nought}
-use Rattle.rules.specs.Code.{codeOf, no-bit}
+use Rattle.rules.specs.Code.{codeOf, unmetFrom}
 use Rattle.rules.specs.Report.{codeText, countLine, stateLine, unmetLine}
 use Rattle.pen.proofs.Decimal.{decimal-length}
-use Rattle.report.specs.Report.{unmetIn, stateLines, unmetLines, encodedReport}
+use Rattle.report.specs.Report.{stateLines, unmetLines, linesOf, encodedReport}
+use Rattle.rules.specs.Requirements.{metByCode}
+use Rattle.rules.specs.declared.Requirement.{Requirement}
+use Rattle.rules.specs.declared.Listing.{Listing}
+use Rattle.rules.proofs.Unmet.{listed-met, listed-unmet}
+use Rattle.families.specs.Families.{requirementsIn}
+use Rattle.code_drawing.specs.Drawing.{allFamilies}
 use Rattle.entries.proofs.Fields.{count-fields, state-fields}
 use Rattle.report.proofs.Lines.{states-none, states-more}
-use Rattle.report.proofs.Unmet.{unmet-in, unmet-out, unmet-empty, lines-empty, lines-cons}
+use Rattle.report.proofs.Unmet.{from-none, numbers-none, numbers-cons}
 
 -- ---- lines
 
@@ -49,32 +54,32 @@ states-length bits (suc n) h k =
     let ih : length (stateLines bits n) ≤ 39 * n = states-length bits n h (omega arith) in
     rw (e, states-more bits n, length-append) (omega (arith, state-length bits (record { 0 = n }) h (omega arith)))
 
-unmets-length : (k : ℕ) (by : List ℕ) → k + length by ≤ 10000 → length (unmetLines (unmetIn k by)) ≤ 8 * length by
-unmets-length k [] h = rw (unmet-empty k, lines-empty) (omega arith)
-unmets-length k (b ∷ by) h = go (eqb b no-bit) refl (unmets-length (suc k) by (omega arith))
+unmets-length : (k n : ℕ) (bits : List ℕ) (rs : List Requirement) → k + length rs ≤ 10000 → length (unmetLines (unmetFrom k n bits rs)) ≤ 8 * length rs
+unmets-length k n bits [] h = rw (from-none k n bits, numbers-none) (omega arith)
+unmets-length k n bits (r ∷ rs) h = go (metByCode n bits r) refl (unmets-length (suc k) n bits rs (omega arith))
   where
-    go : (t : Bool) → eqb b no-bit ≡ t → length (unmetLines (unmetIn (suc k) by)) ≤ 8 * length by → length (unmetLines (unmetIn k (b ∷ by))) ≤ 8 * suc (length by)
-    go true e ih = rw (unmet-in k b by e, lines-cons, length-append) (omega (arith, unmet-length (record { 0 = k }) (omega arith)))
-    go false e ih = rw (unmet-out k b by e) (omega arith)
+    go : (t : Bool) → metByCode n bits r ≡ t → length (unmetLines (unmetFrom (suc k) n bits rs)) ≤ 8 * length rs → length (unmetLines (unmetFrom k n bits (r ∷ rs))) ≤ 8 * suc (length rs)
+    go true e ih = rw (listed-met k n bits r rs e) (omega arith)
+    go false e ih = rw (listed-unmet k n bits r rs e, numbers-cons, length-append) (omega (arith, unmet-length (record { 0 = k }) (omega arith)))
 
-unmet-few : (k : ℕ) (by : List ℕ) → length (unmetIn k by) ≤ length by
-unmet-few k [] = rw (unmet-empty k) (omega arith)
-unmet-few k (b ∷ by) = go (eqb b no-bit) refl (unmet-few (suc k) by)
+-- no more are unmet than there are
+pub unmet-few : (k n : ℕ) (bits : List ℕ) (rs : List Requirement) → length (unmetFrom k n bits rs) ≤ length rs
+unmet-few k n bits [] = rw (from-none k n bits) (omega arith)
+unmet-few k n bits (r ∷ rs) = go (metByCode n bits r) refl (unmet-few (suc k) n bits rs)
   where
-    go : (t : Bool) → eqb b no-bit ≡ t → length (unmetIn (suc k) by) ≤ length by → length (unmetIn k (b ∷ by)) ≤ suc (length by)
-    go true e ih = rw (unmet-in k b by e) (omega arith)
-    go false e ih = rw (unmet-out k b by e) (omega arith)
+    go : (t : Bool) → metByCode n bits r ≡ t → length (unmetFrom (suc k) n bits rs) ≤ length rs → length (unmetFrom k n bits (r ∷ rs)) ≤ suc (length rs)
+    go true e ih = rw (listed-met k n bits r rs e) (omega arith)
+    go false e ih = rw (listed-unmet k n bits r rs e) (omega arith)
 
 -- ---- the whole
 
-pub report-length : (n : ℕ) (e : Encoding) → n ≤ most-states → e .width ≤ most-bits → e .asked ≤ most-asked → e .passes < 2 ^ 64 → e .looks < 2 ^ 64 → length (encodedReport n e) ≤ 36509
-unfolding encodedReport
-report-length n e hn hw ha hp hl =
-    let by : List ℕ = take (e .asked) (e .by) in
-    let few : length by ≤ most-asked = omega (arith, length-take (e .asked) (e .by)) in
-    let narrow : length (take (e .width) (e .bits)) ≤ most-bits = omega (arith, length-take (e .width) (e .bits)) in
-    let u : length (unmetIn 0 by) ≤ most-asked = omega (arith, unmet-few 0 by) in
-    let c = count-length (e .width) (e .asked) (length (unmetIn 0 by)) (e .passes) (e .looks) (omega arith) (omega arith) (omega arith) hp hl in
-    let s = states-length (take (e .width) (e .bits)) n narrow (omega arith) in
-    let l = unmets-length 0 by (omega arith) in
+pub report-length : (t : Listing) (e : Encoding) → t .head .states ≤ most-states → length (requirementsIn (allFamilies t)) ≤ most-asked
+    → e .width ≤ most-bits → e .asked ≤ most-asked → e .unmet ≤ most-asked → e .passes < 2 ^ 64 → e .looks < 2 ^ 64 → length (encodedReport t e) ≤ 36509
+unfolding encodedReport linesOf
+report-length t e hn hr hw ha hu hp hl =
+    let bits : List ℕ = take (e .width) (e .bits) in
+    let narrow : length bits ≤ most-bits = omega (arith, length-take (e .width) (e .bits)) in
+    let c = count-length (e .width) (e .asked) (e .unmet) (e .passes) (e .looks) (omega arith) (omega arith) (omega arith) hp hl in
+    let s = states-length bits (t .head .states) narrow (omega arith) in
+    let l = unmets-length 0 64 bits (requirementsIn (allFamilies t)) (omega arith) in
     simp length-append (omega arith)

@@ -5,11 +5,15 @@ use Prim.Native.Nat.{ℕ, _+_, min}
 use lib.ListN.{length, take}
 use Rattle.sets.specs.Sets.{statesFrom}
 use Rattle.rules.specs.declared.Encoding.{Encoding}
-use Rattle.rules.specs.Limits.{most-bits, most-asked}
+use Rattle.rules.specs.declared.Listing.{Listing}
+use Rattle.families.specs.Families.{requirementsIn}
+use Rattle.code_drawing.specs.Drawing.{allFamilies}
+use Rattle.sets.proofs.Places.{take-most}
+use Rattle.rules.specs.Limits.{most-bits}
 use Rattle.rules.specs.Text.{bytes}
 use Rattle.rules.specs.Report.{countLine, stateLine, joinedLines}
-use Rattle.pen.proofs.Growing.{states-one, joined-more, take-most}
-use Rattle.report.specs.Report.{stateLines, unmetIn, unmetLines, encodedReport}
+use Rattle.pen.proofs.Growing.{states-one, joined-more}
+use Rattle.report.specs.Report.{stateLines, linesOf, encodedReport}
 
 -- ---- lines of states
 
@@ -24,17 +28,13 @@ states-more bits i =
     ∙ ap joinedLines (map-append (λ s. stateLine bits (record { 0 = s })) (statesFrom 0 i) (i ∷ []))
     ∙ joined-more (map (λ s. stateLine bits (record { 0 = s })) (statesFrom 0 i)) (stateLine bits (record { 0 = i }))
 
--- ---- the whole report, from the parts of the answer that its arrays hold
+-- ---- the whole report, from the part of the answer's code that its array holds
 
-pub report-parts : (n : ℕ) (e : Encoding) {w a u : ℕ}
-    → length (e .bits) ≡ 32
-    → length (e .by) ≡ most-asked
-    → w ≡ min (e .width) 32
-    → a ≡ min (e .asked) most-asked
-    → u ≡ length (unmetIn 0 (take a (e .by)))
-    → countLine (e .width) (e .asked) u (e .passes) (e .looks)
-    ++ (stateLines (take w (e .bits)) n ++ (unmetLines (unmetIn 0 (take a (e .by))) ++ bytes "EN\n"))
-    ≡ encodedReport n e
+pub report-parts : (t : Listing) (e : Encoding) {w : ℕ}
+    → length (e .bits) ≡ most-bits
+    → w ≡ min (e .width) most-bits
+    → countLine (e .width) (e .asked) (e .unmet) (e .passes) (e .looks)
+    ++ (stateLines (take w (e .bits)) (t .head .states) ++ (linesOf 0 (take w (e .bits)) (requirementsIn (allFamilies t)) ++ bytes "EN\n"))
+    ≡ encodedReport t e
 unfolding encodedReport
-report-parts n e hb hy hw ha hu =
-    rw (hu, hw, ha, take-most (e .width) most-bits (e .bits) hb, take-most (e .asked) most-asked (e .by) hy)
+report-parts t e hb hw = rw (hw, take-most (e .width) most-bits (e .bits) hb)

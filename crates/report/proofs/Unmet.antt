@@ -1,103 +1,114 @@
--- The requirements that no bit meets, one requirement more at the end.
-use mathlib.Core.Path.{_≡_, refl, ap, _∙_}
+-- The lines of requirements that no bit meets, as the loops that write them meet them: one requirement, and those behind it.
+use mathlib.Core.Path.{_≡_, refl, sym, ap, _∙_}
 use mathlib.Core.Bool.{Bool, true, false}
 use mathlib.Core.List.{List, [], _∷_, _++_, map, map-append, append-nil}
-use Prim.Native.Nat.{ℕ, suc, _+_, _<_}
+use Prim.Native.Nat.{ℕ, suc, _+_, _^_, _≤_, _<_, min}
 use native.Mathlib.Nat.{add-zero}
 use native.Mathlib.Omega.{arith}
-use lib.Dec.{eqb}
-use lib.ListN.{length, take, getD, length-append}
-use lib.Seq.{length-take-le}
-use borrow.Author.Tests.{eq-eqb, ne-eqb, eqb-true, eqb-false}
-use Rattle.rules.specs.Code.{no-bit}
-use Rattle.rules.specs.declared.RequirementNumber.{RequirementNumber}
+use lib.Count.{trailingZeros}
+use lib.Dec.{leb, ltb}
+use lib.ListN.{length, drop, length-drop, length-append, getD}
+use borrow.Author.Tests.{lt-ltb, le-ltb, le-leb, lt-leb}
+use Rattle.sets.specs.Sets.{statesFrom, withoutLowest}
+use Rattle.rules.specs.Requirements.{metByCode}
+use Rattle.rules.specs.Code.{unmetFrom}
 use Rattle.rules.specs.Report.{unmetLine, joinedLines}
-use Rattle.pen.proofs.Growing.{take-one, joined-append, joined-one}
-use Rattle.report.specs.Report.{unmetIn, unmetLineIf, unmetLines}
+use Rattle.rules.specs.declared.Requirement.{Requirement}
+use Rattle.rules.proofs.Unmet.{listed-met, listed-unmet}
+use Rattle.families.specs.Families.{inside, requirementsOf, requirementsIn}
+use Rattle.families.proofs.Walking.{none-walked, lowest-walked}
+use Rattle.families.proofs.Words.{in-step, in-short}
+use Rattle.code_judging.specs.Judging.{countOf}
+use Rattle.code_judging.proofs.Counted.{family-length}
+use Rattle.rules.specs.declared.RequirementNumber.{RequirementNumber}
+use Rattle.pen.specs.Pen.{lastPlace}
+use Rattle.pen.proofs.Growing.{joined-append}
+use Rattle.report.specs.Report.{unmetLines, linesOf}
 
--- ---- the two cases
+-- ---- the numbers
 
-pub unmet-in : (k b : ℕ) (bs : List ℕ) → eqb b no-bit ≡ true → unmetIn k (b ∷ bs) ≡ k ∷ unmetIn (suc k) bs
-unfolding unmetIn
-unmet-in k b bs e = rw (e, unmetIn)
+pub from-none : (k n : ℕ) (bits : List ℕ) → unmetFrom k n bits [] ≡ []
+unfolding unmetFrom
+from-none k n bits = refl
 
-pub unmet-out : (k b : ℕ) (bs : List ℕ) → eqb b no-bit ≡ false → unmetIn k (b ∷ bs) ≡ unmetIn (suc k) bs
-unfolding unmetIn
-unmet-out k b bs e = rw (e, unmetIn)
-
-pub unmet-empty : (k : ℕ) → unmetIn k [] ≡ []
-unfolding unmetIn
-unmet-empty k = refl
-
--- ---- one more at the end
-
-unmet-append : (k : ℕ) (xs : List ℕ) (b : ℕ) → unmetIn k (xs ++ (b ∷ [])) ≡ unmetIn k xs ++ unmetIn (k + length xs) (b ∷ [])
-unmet-append k [] b = rw (unmet-empty k, add-zero)
-unmet-append k (x ∷ xs) b =
+pub from-append : (k n : ℕ) (bits : List ℕ) (xs ys : List Requirement) → unmetFrom k n bits (xs ++ ys) ≡ unmetFrom k n bits xs ++ unmetFrom (k + length xs) n bits ys
+from-append k n bits [] ys = rw (from-none k n bits, add-zero)
+from-append k n bits (x ∷ xs) ys =
     let e : suc k + length xs ≡ k + suc (length xs) = omega arith in
-    go (eqb x no-bit) refl (rw (← e) (unmet-append (suc k) xs b))
+    go (metByCode n bits x) refl (rw (← e) (from-append (suc k) n bits xs ys))
   where
-    go : (t : Bool) → eqb x no-bit ≡ t
-        → unmetIn (suc k) (xs ++ (b ∷ [])) ≡ unmetIn (suc k) xs ++ unmetIn (k + suc (length xs)) (b ∷ [])
-        → unmetIn k (x ∷ (xs ++ (b ∷ []))) ≡ unmetIn k (x ∷ xs) ++ unmetIn (k + suc (length xs)) (b ∷ [])
-    go true e more = rw (unmet-in k x (xs ++ (b ∷ [])) e, unmet-in k x xs e) (ap (λ (l : List ℕ). k ∷ l) more)
-    go false e more = rw (unmet-out k x (xs ++ (b ∷ [])) e, unmet-out k x xs e) more
+    go : (t : Bool) → metByCode n bits x ≡ t
+        → unmetFrom (suc k) n bits (xs ++ ys) ≡ unmetFrom (suc k) n bits xs ++ unmetFrom (k + suc (length xs)) n bits ys
+        → unmetFrom k n bits (x ∷ (xs ++ ys)) ≡ unmetFrom k n bits (x ∷ xs) ++ unmetFrom (k + suc (length xs)) n bits ys
+    go true e more = rw (listed-met k n bits x (xs ++ ys) e, listed-met k n bits x xs e) more
+    go false e more = rw (listed-unmet k n bits x (xs ++ ys) e, listed-unmet k n bits x xs e) (ap (λ (l : List ℕ). k ∷ l) more)
 
--- requirement k behind those below k
-unmet-one : (by : List ℕ) (k : ℕ) → k < length by → unmetIn 0 (take (k + 1) by) ≡ unmetIn 0 (take k by) ++ unmetIn k (getD by k 0 ∷ [])
-unmet-one by k h =
-    let e : 0 + length (take k by) ≡ k = omega (arith, length-take-le k by (omega arith)) in
-    ap (unmetIn 0) (take-one by k 0 h) ∙ unmet-append 0 (take k by) (getD by k 0) ∙ rw e
+-- ---- the lines
 
--- ---- what a loop over the requirements has counted
-
-pub count-none : length (unmetIn 0 []) ≡ 0
-count-none = rw (unmet-empty 0)
-
-pub count-in : (by : List ℕ) (k : ℕ) → k < length by → getD by k 0 ≡ no-bit → length (unmetIn 0 (take (k + 1) by)) ≡ length (unmetIn 0 (take k by)) + 1
-count-in by k h e = rw (unmet-one by k h, unmet-in k (getD by k 0) [] (eq-eqb _ _ e), unmet-empty (suc k), length-append)
-
-pub count-out : (by : List ℕ) (k : ℕ) → k < length by → (getD by k 0 ≡ no-bit → ⊥) → length (unmetIn 0 (take (k + 1) by)) ≡ length (unmetIn 0 (take k by))
-count-out by k h e = rw (unmet-one by k h, unmet-out k (getD by k 0) [] (ne-eqb _ _ e), unmet-empty (suc k), append-nil)
-
--- ---- and written
-
-pub lines-cons : (k : ℕ) (rs : List ℕ) → unmetLines (k ∷ rs) ≡ unmetLine (record { 0 = k }) ++ unmetLines rs
+pub numbers-none : unmetLines [] ≡ []
 unfolding unmetLines joinedLines
-lines-cons k rs = refl
+numbers-none = refl
 
-pub lines-empty : unmetLines [] ≡ []
+pub numbers-cons : (k : ℕ) (rs : List ℕ) → unmetLines (k ∷ rs) ≡ unmetLine (record { 0 = k }) ++ unmetLines rs
 unfolding unmetLines joinedLines
-lines-empty = refl
+numbers-cons k rs = refl
 
-pub lines-none : unmetLines (unmetIn 0 []) ≡ []
-lines-none = rw (unmet-empty 0, lines-empty)
-
--- one requirement's line
-pub line-in : (b : ℕ) (r : RequirementNumber) → b ≡ no-bit → unmetLine r ≡ unmetLineIf b r
-unfolding unmetLineIf
-line-in b r e = rw (eq-eqb b no-bit e, unmetLineIf)
-
-pub line-out : (b : ℕ) (r : RequirementNumber) → (b ≡ no-bit → ⊥) → [] ≡ unmetLineIf b r
-unfolding unmetLineIf
-line-out b r e = rw (ne-eqb b no-bit e, unmetLineIf)
-
-lines-append : (xs ys : List ℕ) → unmetLines (xs ++ ys) ≡ unmetLines xs ++ unmetLines ys
+numbers-append : (xs ys : List ℕ) → unmetLines (xs ++ ys) ≡ unmetLines xs ++ unmetLines ys
 unfolding unmetLines
-lines-append xs ys =
+numbers-append xs ys =
     ap joinedLines (map-append (λ r. unmetLine (record { 0 = r })) xs ys)
     ∙ joined-append (map (λ r. unmetLine (record { 0 = r })) xs) (map (λ r. unmetLine (record { 0 = r })) ys)
 
-line-if : (k b : ℕ) → unmetLines (unmetIn k (b ∷ [])) ≡ unmetLineIf b (record { 0 = k })
-unfolding unmetLines joinedLines
-line-if k b = go (eqb b no-bit) refl
-  where
-    go : (t : Bool) → eqb b no-bit ≡ t → unmetLines (unmetIn k (b ∷ [])) ≡ unmetLineIf b (record { 0 = k })
-    go true e = rw (unmet-in k b [] e, unmet-empty (suc k)) (joined-one (unmetLine (record { 0 = k })) ∙ line-in b (record { 0 = k }) (eqb-true b no-bit e))
-    go false e = rw (unmet-out k b [] e, unmet-empty (suc k)) (line-out b (record { 0 = k }) (eqb-false b no-bit e))
+module _ (k : ℕ) (bits : List ℕ) where
+  pub lines-none : linesOf k bits [] ≡ []
+  unfolding linesOf
+  lines-none = ap unmetLines (from-none k 64 bits) ∙ numbers-none
 
-pub lines-one : (by : List ℕ) (k : ℕ) → k < length by → unmetLines (unmetIn 0 (take (k + 1) by)) ≡ unmetLines (unmetIn 0 (take k by)) ++ unmetLineIf (getD by k 0) (record { 0 = k })
-lines-one by k h =
-    ap unmetLines (unmet-one by k h)
-    ∙ lines-append (unmetIn 0 (take k by)) (unmetIn k (getD by k 0 ∷ []))
-    ∙ rw (line-if k (getD by k 0))
+  pub lines-append : (xs ys : List Requirement) → linesOf k bits (xs ++ ys) ≡ linesOf k bits xs ++ linesOf (k + length xs) bits ys
+  unfolding linesOf
+  lines-append xs ys = ap unmetLines (from-append k 64 bits xs ys) ∙ numbers-append (unmetFrom k 64 bits xs) (unmetFrom (k + length xs) 64 bits ys)
+
+  pub line-met : (r : Requirement) → metByCode 64 bits r ≡ true → [] ≡ linesOf k bits (r ∷ [])
+  unfolding linesOf
+  line-met r e = sym (ap unmetLines (listed-met k 64 bits r [] e ∙ from-none (suc k) 64 bits) ∙ numbers-none)
+
+  pub line-unmet : (r : Requirement) → metByCode 64 bits r ≡ false → unmetLine (record { 0 = k }) ≡ linesOf k bits (r ∷ [])
+  unfolding linesOf
+  line-unmet r e =
+      sym (ap unmetLines (listed-unmet k 64 bits r [] e ∙ ap (λ (l : List ℕ). k ∷ l) (from-none (suc k) 64 bits)) ∙ numbers-cons k [] ∙ ap (λ (l : List ℕ). unmetLine (record { 0 = k }) ++ l) numbers-none ∙ append-nil _)
+
+-- ---- the members of a set, each with a requirement of its own
+
+module _ (k : ℕ) (bits : List ℕ) (f : ℕ → Requirement) (m : ℕ) where
+  pub members-none : m ≡ 0 → linesOf k bits (map f (inside m (statesFrom 0 64))) ≡ []
+  members-none e = ap (λ (ts : List ℕ). linesOf k bits (map f ts)) (none-walked m e) ∙ lines-none k bits
+
+  pub members-more : (s l : ℕ) → m < 2 ^ 64 → (m ≡ 0 → ⊥) → s ≡ trailingZeros 64 m → l ≡ withoutLowest m
+      → linesOf k bits (f s ∷ []) ++ linesOf (k + 1) bits (map f (inside l (statesFrom 0 64))) ≡ linesOf k bits (map f (inside m (statesFrom 0 64)))
+  members-more s l fits some e h =
+      ap (λ (x : ℕ). linesOf k bits (f s ∷ []) ++ linesOf (k + 1) bits (map f (inside x (statesFrom 0 64)))) h
+      ∙ sym (ap (λ (ts : List ℕ). linesOf k bits (map f ts)) (lowest-walked m s fits some e)
+      ∙ lines-append k bits (f s ∷ []) (map f (inside (withoutLowest m) (statesFrom 0 64))))
+
+-- ---- families
+
+module _ (k : ℕ) (bits fs : List ℕ) (i : ℕ) where
+  pub families-none : length fs < i + 3 → linesOf k bits (requirementsIn (drop i fs)) ≡ []
+  families-none h = ap (linesOf k bits) (in-short (drop i fs) (omega (arith, length-drop i fs))) ∙ lines-none k bits
+
+  pub families-more : i + 3 ≤ length fs → getD fs (i + 2) 0 < 2 ^ 64 → (c : ℕ) → c ≡ countOf (getD fs i 0) (getD fs (i + 2) 0)
+      → linesOf k bits (requirementsOf (getD fs i 0) (getD fs (i + 1) 0) (getD fs (i + 2) 0)) ++ linesOf (k + c) bits (requirementsIn (drop (i + 3) fs)) ≡ linesOf k bits (requirementsIn (drop i fs))
+  families-more h fits c e =
+      let here : List Requirement = requirementsOf (getD fs i 0) (getD fs (i + 1) 0) (getD fs (i + 2) 0) in
+      ap (λ (n : ℕ). linesOf k bits here ++ linesOf (k + n) bits (requirementsIn (drop (i + 3) fs))) (e ∙ sym (family-length (getD fs i 0) (getD fs (i + 1) 0) (getD fs (i + 2) 0) fits))
+      ∙ sym (ap (linesOf k bits) (in-step fs i h) ∙ lines-append k bits here (requirementsIn (drop (i + 3) fs)))
+
+-- ---- whether there is a line at all
+
+line-some : (r : RequirementNumber) → 1 ≤ length (unmetLine r)
+unfolding unmetLine
+line-some r = omega arith
+
+pub some-lines : (xs : List ℕ) (r : ℕ) → r ≡ min (0 + length (unmetLines xs)) lastPlace → ltb 0 r ≡ leb 1 (length xs)
+some-lines [] r e = le-ltb 0 r (omega (arith, ap length numbers-none)) ∙ sym (lt-leb 1 0 (omega arith))
+some-lines (k ∷ xs) r e = lt-ltb 0 r (omega (arith, ap length (numbers-cons k xs), length-append (unmetLine (record { 0 = k })) (unmetLines xs), line-some (record { 0 = k }))) ∙ sym (le-leb 1 (suc (length xs)) (omega arith))

@@ -1,9 +1,18 @@
 // The report: its counts, a line for each state, a line for each requirement that no bit meets, and its end.
 ghost use mathlib.Core.Path.{_≡_};
+ghost use mathlib.Core.List.{[], _∷_, map};
+ghost use Prim.Native.Nat.{_+_, _*_, _^_, _≤_, _<_};
+ghost use lib.Bits.{bitOr};
 ghost use lib.ListN.{length};
+ghost use Rattle.sets.specs.Sets.{only, statesFrom};
+ghost use Rattle.rules.specs.Limits.{most-states, most-rows, most-dichotomies};
+ghost use Rattle.rules.specs.Requirements.{asks};
+ghost use Rattle.families.specs.Families.{inside, requirementsOf, requirementsIn};
+ghost use Rattle.code_drawing.specs.Drawing.{allFamilies};
 ghost use Rattle.pen.specs.Pen.{Wrote};
-ghost use Rattle.report.specs.Report.{unmetIn, unmetLineIf, stateLines, unmetLines, encodedReport};
+ghost use Rattle.report.specs.Report.{stateLines, linesOf, encodedReport, anyUnmet};
 use rules::Encoding;
+use rules::Listing;
 use rules::RequirementNumber;
 use rules::StateNumber;
 
@@ -21,54 +30,120 @@ fn put_state_lines(out: &mut [u8], at: usize, bits: &[u64], n: usize) -> usize
 }
 
 // The line of one requirement, where no bit meets it.
-fn put_if_unmet(out: &mut [u8], at: usize, by: u8, number: RequirementNumber) -> usize
-    ensures { λ r. ⌜ Wrote (now (out .entry)) at (unmetLineIf by number) r (now (out .exit)) ⌝ }
+fn put_if_unmet(
+    out: &mut [u8],
+    at: usize,
+    bits: &[u64],
+    first: u64,
+    second: u64,
+    number: RequirementNumber,
+) -> usize
+    ensures { λ r. ⌜ Wrote (now (out .entry)) at (linesOf (number .0) (now (bits .entry)) (asks first second ∷ [])) r (now (out .exit)) ⌝ }
 {
-    if by == rules::NO_BIT {
-        return entries::put_unmet_line(out, at, number);
+    if code_judging::met_by(bits, first, second) {
+        return at;
     }
-    at
+    entries::put_unmet_line(out, at, number)
 }
 
-// A line for each requirement that no bit meets; requirement k is met by bit `by[k]`.
-fn put_unmet_lines(out: &mut [u8], at: usize, by: &[u8]) -> usize
-    ensures { λ r. ⌜ Wrote (now (out .entry)) at (unmetLines (unmetIn 0 (now (by .entry)))) r (now (out .exit)) ⌝ }
+// The lines of the requirements that each member of a set makes, in the second block with the others there; the first has the number given.
+fn put_members(
+    out: &mut [u8],
+    at: usize,
+    bits: &[u64],
+    first: u64,
+    second: u64,
+    members: u64,
+    number: usize,
+) -> usize
+    requires { ⌜ number + 64 < 2 ^ 64 ⌝ }
+    ensures { λ r. ⌜ Wrote (now (out .entry)) at (linesOf number (now (bits .entry)) (map (λ t. asks first (bitOr second (only t))) (inside members (statesFrom 0 64)))) r (now (out .exit)) ⌝ }
 {
-    let mut k: usize = 0;
+    let mut rest = members;
+    let mut k = number;
     let mut to = at;
-    while k < by.len() {
-        to = put_if_unmet(out, to, by[k], RequirementNumber(k));
+    while rest != 0 {
+        let t = sets::lowest(rest);
+        to = put_if_unmet(
+            out,
+            to,
+            bits,
+            first,
+            second | (1 << t),
+            RequirementNumber(k),
+        );
+        rest = sets::without_lowest(rest);
         k += 1;
     }
     to
 }
 
-// How many requirements no bit meets.
-pub fn unmet_count(by: &[u8]) -> usize
-    ensures { λ r. ⌜ r ≡ length (unmetIn 0 (now (by .entry))) ⌝ }
+// The lines of one family's requirements.
+fn put_family(
+    out: &mut [u8],
+    at: usize,
+    bits: &[u64],
+    all: u64,
+    flip: u64,
+    outside: u64,
+    number: usize,
+) -> usize
+    requires { ⌜ number + 64 < 2 ^ 64 ⌝ }
+    ensures { λ r. ⌜ Wrote (now (out .entry)) at (linesOf number (now (bits .entry)) (requirementsOf all flip outside)) r (now (out .exit)) ⌝ }
 {
-    let mut k: usize = 0;
-    let mut count: usize = 0;
-    while k < by.len() {
-        if by[k] == rules::NO_BIT {
-            count += 1;
-        }
-        k += 1;
+    let first = families::without_of(all, flip);
+    if outside == 0 {
+        return put_if_unmet(out, at, bits, first, all & flip, RequirementNumber(number));
     }
-    count
+    let members = families::without_of(outside, all);
+    put_members(out, at, bits, first, all & flip, members, number)
 }
 
-// The report on `states` states, from the buffer's start.
-pub fn put_report(out: &mut [u8], states: usize, e: Encoding) -> usize
-    ensures { λ r. ⌜ Wrote (now (out .entry)) 0 (encodedReport states e) r (now (out .exit)) ⌝ }
+// The lines of all families' requirements, numbered from 0.
+fn put_families(out: &mut [u8], at: usize, bits: &[u64], fs: &[u64]) -> usize
+    requires { ⌜ length (now fs) ≤ 3 * (most-states + most-rows + most-dichotomies) ⌝ }
+    ensures { λ r. ⌜ Wrote (now (out .entry)) at (linesOf 0 (now (bits .entry)) (requirementsIn (now (fs .entry)))) r (now (out .exit)) ⌝ }
+{
+    let mut i: usize = 0;
+    let mut number: usize = 0;
+    let mut to = at;
+    while 3 <= fs.len() - i {
+        to = put_family(out, to, bits, fs[i], fs[i + 1], fs[i + 2], number);
+        number += code_judging::count_of(fs[i], fs[i + 2]);
+        i += 3;
+    }
+    to
+}
+
+// The lines of all that a listing asks and no bit meets.
+fn put_unmet_lines(out: &mut [u8], at: usize, t: Listing, bits: &[u64]) -> usize
+    ensures { λ r. ⌜ Wrote (now (out .entry)) at (linesOf 0 (now (bits .entry)) (requirementsIn (allFamilies t))) r (now (out .exit)) ⌝ }
+{
+    let mut fs = [0u64; code_drawing::ALL_WORDS];
+    let words = code_drawing::draw_all(t, &mut fs);
+    put_families(out, at, bits, &fs[..words])
+}
+
+// Whether a pair or a group requirement is unmet: whether the walk over them writes anything.
+pub fn is_any_unmet(t: Listing, e: Encoding) -> bool
+    ensures { λ r. ⌜ r ≡ anyUnmet t e ⌝ }
 {
     let width = sets::least(e.width, rules::MOST_BITS);
-    let asked = sets::least(e.asked, rules::MOST_ASKED);
     let bits = e.bits;
-    let by = e.by;
-    let unmet = unmet_count(&by[..asked]);
-    let p = entries::put_count_line(out, 0, e.width, e.asked, unmet, e.passes, e.looks);
-    let q = put_state_lines(out, p, &bits[..width], states);
-    let r = put_unmet_lines(out, q, &by[..asked]);
+    let mut fs = [0u64; code_drawing::ALL_WORDS];
+    let words = code_drawing::draw_first(t, &mut fs);
+    let mut none = [0u8; 1];
+    0 < put_families(&mut none, 0, &bits[..width], &fs[..words])
+}
+
+// The report on a listing, from the buffer's start.
+pub fn put_report(out: &mut [u8], t: Listing, e: Encoding) -> usize
+    ensures { λ r. ⌜ Wrote (now (out .entry)) 0 (encodedReport t e) r (now (out .exit)) ⌝ }
+{
+    let width = sets::least(e.width, rules::MOST_BITS);
+    let bits = e.bits;
+    let p = entries::put_count_line(out, 0, e.width, e.asked, e.unmet, e.passes, e.looks);
+    let q = put_state_lines(out, p, &bits[..width], t.head.states);
+    let r = put_unmet_lines(out, q, t, &bits[..width]);
     pen::put_bytes(out, r, b"EN\n")
 }

@@ -30,3 +30,4 @@ pub mod Gains
 pub mod Built
 pub mod SoundCode
 pub mod LineNumbers
+pub mod Wholly

@@ -68,8 +68,3 @@ coding t = wideEnough t (build (cond (eqb (t .head .width) 0) most-bits (t .head
 
 abbrev pub codeOf : List ℕ → ℕ → List ℕ
 codeOf bits s = map (λ b. has b s) bits
-
--- ---- what an Encoding notes for a requirement that no bit meets; any other note is the number of the bit that first meets it
-
-abbrev pub no-bit : ℕ
-no-bit = 255

@@ -150,16 +150,13 @@ pub struct Reading {
     pub listing: Listing,
 }
 
-// What the encoder answers: a code, bit k the set of the states with value 1 in it, and for each requirement the bit that first met it.
+// What the encoder answers: a code, bit k the set of the states with value 1 in it; how many requirements there are, and how many of them no bit meets.
 pub struct Encoding {
     pub verdict: Verdict,
     pub width: usize,
     pub bits: [u64; MOST_BITS],
     pub asked: usize,
-    pub by: [u8; MOST_ASKED],
+    pub unmet: usize,
     pub passes: u64,
     pub looks: u64,
 }
-
-// What stands in `by` for a requirement that no bit meets.
-pub const NO_BIT: u8 = 255;

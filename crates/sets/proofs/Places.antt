@@ -1,10 +1,13 @@
--- Places of a list: inside it, of a mapped one, and of one filled up.
+-- Places of a list: inside it, of a mapped one, of one filled up, and the first of an array.
 use mathlib.Core.Path.{_≡_, refl, sym, ap, _∙_}
+use mathlib.Core.Bool.{Bool, true, false}
 use mathlib.Core.List.{List, [], _∷_, map}
-use Prim.Native.Nat.{ℕ, zero, suc, _+_, _-_, _≤_, _<_}
+use Prim.Native.Nat.{ℕ, zero, suc, _+_, _-_, _≤_, _<_, min}
 use native.Mathlib.Omega.{arith}
-use lib.ListN.{length, getD, replicate, length-append, length-replicate, List·getD-append}
-use lib.Seq.{getD-append-add}
+use lib.Dec.{leb}
+use lib.ListN.{length, take, getD, replicate, length-append, length-replicate, List·getD-append}
+use lib.Seq.{take-all, getD-append-add}
+use borrow.Author.Tests.{leb-true, leb-false}
 use Rattle.sets.specs.Places.{padded}
 
 -- inside a list the default does not matter
@@ -36,3 +39,15 @@ padded-behind w v l i h =
     ap (λ (j : ℕ). getD (padded w v l) j v) (sym e)
     ∙ getD-append-add l (replicate (w - length l) v) (i - length l) v
     ∙ replicate-at (w - length l) v (i - length l)
+
+-- a loop over an array goes no further than its length
+pub take-most {ℓ} : {A : Type ℓ} (n k : ℕ) (l : List A) → length l ≡ k → take (min n k) l ≡ take n l
+take-most n k l e = go (leb n k) refl
+  where
+    go : (t : Bool) → leb n k ≡ t → take (min n k) l ≡ take n l
+    go true h =
+        let m : min n k ≡ n = omega (arith, leb-true n k h) in
+        rw m
+    go false h =
+        let b : k < n = leb-false n k h in
+        take-all (min n k) l (omega arith) ∙ sym (take-all n l (omega arith))

@@ -21,10 +21,10 @@ use Rattle.rules.specs.declared.Requirement.{Requirement}
 use Rattle.rules.proofs.Good.{AllGood, apart-and}
 use Rattle.shares.specs.Table.{level}
 use Rattle.families.specs.Families.{requirementsIn}
-use Rattle.moves.specs.Moves.{moved, looked}
-use Rattle.moves.proofs.Lists.{looked-le}
-use Rattle.moves.proofs.Ready.{Ready}
-use Rattle.moves.proofs.Shows.{Shows, shows-filled, shows-moved}
+use Rattle.shares.specs.Moves.{moved, looked}
+use Rattle.shares.proofs.Lists.{looked-le}
+use Rattle.shares.proofs.Ready.{Ready}
+use Rattle.shares.proofs.Shows.{Shows, shows-filled, shows-moved}
 use Rattle.trial.specs.declared.Trial.{Trial}
 use Rattle.trial.specs.Record.{none, shown, askedOf, nextOf}
 use Rattle.calls.proofs.Startable.{Startable}

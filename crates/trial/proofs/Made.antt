@@ -13,7 +13,7 @@ use Rattle.rules.specs.Trial.{startable}
 use Rattle.rules.specs.declared.StateNumber.{StateNumber}
 use Rattle.shares.specs.Table.{level}
 use Rattle.families.specs.Families.{requirementsIn}
-use Rattle.moves.specs.Moves.{filled, moved, looked}
+use Rattle.shares.specs.Moves.{filled, moved, looked}
 use Rattle.trial.specs.declared.Trial.{Trial}
 use Rattle.trial.specs.declared.Answer.{Answer}
 use Rattle.trial.specs.Record.{taken, turnedDown, stored, none, shown, startOf, askedOf, nextOf, moveOf, gainOf}

@@ -17,7 +17,7 @@ use Rattle.rules.specs.declared.Requirement.{Requirement}
 use Rattle.rules.specs.declared.StateNumber.{StateNumber}
 use Rattle.shares.specs.Table.{level}
 use Rattle.families.specs.Families.{requirementsIn}
-use Rattle.moves.proofs.Looks.{looked-looks}
+use Rattle.shares.proofs.Looks.{looked-looks}
 use Rattle.trial.specs.declared.Trial.{Trial}
 use Rattle.trial.specs.declared.Answer.{Answer}
 use Rattle.trial.specs.Record.{taken, turnedDown, none, shown, startOf, askedOf, nextOf, moveOf, gainOf}

@@ -6,7 +6,7 @@ ghost use Rattle.rules.specs.Limits.{most-trial};
 ghost use Rattle.rules.specs.Cases.{verdictNumbers};
 ghost use Rattle.shares.specs.Table.{level};
 ghost use Rattle.families.specs.Families.{requirementsIn};
-ghost use Rattle.moves.specs.Moves.{filled};
+ghost use Rattle.shares.specs.Moves.{filled};
 ghost use Rattle.trial.specs.Record.{stored, taken, turnedDown, none, shown, startOf, nextOf, moveOf, gainOf};
 
 // Three words for each of the most requirements.
@@ -161,7 +161,7 @@ impl Trial {
             return 0;
         }
         let t = self.table;
-        (moves::level_at(&t, k) as i64) - (shares::LEVEL as i64)
+        (shares::level_at(&t, k) as i64) - (shares::LEVEL as i64)
     }
 
     // The looks so far.

@@ -20,7 +20,7 @@ use Rattle.bit_live.proofs.move_live.Reads as move-live-reads
 use Rattle.choice.proofs.best_of.Reads as best-of-reads
 use Rattle.choice.proofs.choose.Reads as choose-reads
 use Rattle.choice.proofs.reach.Reads as reach-reads
-use Rattle.moves.proofs.level_at.Reads as level-at-reads
+use Rattle.shares.proofs.level_at.Reads as level-at-reads
 use Rattle.sets.proofs.flipped.Reads as flipped-reads
 
 choose-requires : tie.Need-choose-requires

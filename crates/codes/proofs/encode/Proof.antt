@@ -1,80 +1,64 @@
--- `codes::encode` meets its contract: a listing of which cards are dealt is fair, and any other is not.
-use Prim.Native.Nat.{ℕ, _≤_}
+-- `codes::encode` meets its contract: a fair listing has its families drawn and its code built, and any other is refused.
+use mathlib.Core.Path.{_≡_, sym, ap, _∙_}
 use mathlib.Core.Bool.{true, false}
-use mathlib.Core.Path.{_≡_, sym, _∙_}
-use native.Mathlib.Omega.{arith}
+use mathlib.Core.List.{List, []}
+use Prim.Native.Nat.{ℕ}
 use borrow.Author.Needs.{needs}
-use lib.ListN.{length, replicate, length-take, length-replicate}
-use Rattle.cards.proofs.Answers.{no-cards, so-fair, as-long, so-laid, so-dealt, so-long}
+use borrow.Author.Tests.{not-true, not-false}
+use lib.Seq.{length-take-le}
+use Rattle.fair.specs.Fair.{fair}
+use Rattle.bit_live.specs.Live.{liveIn}
 use Rattle.encoding.proofs.Answered.{encoded-is}
+use Rattle.code_drawing.proofs.Growing.{drew-words, drew-fits}
+use Rattle.codes.specs.Build.{encodedFor}
+use Rattle.codes.proofs.Encoded.{asked-of, encoded-for, drawn-live}
 use Rattle.codes.proofs.encode.Statement.{statement}
 use Rattle.codes.proofs.encode.Tie as tie
 
-deal-out-requires : tie.Need-deal-out-requires
-deal-out-requires c κs = search needs
+-- behind the test the listing is fair
+so-fair : (d : tie.After-draw) → fair (d .before .before .before .before .args .t) ≡ true
+so-fair d = let i = d .before .before in sym (i .before .is-fair .ensures) ∙ not-false _ (i .if1 .left)
 
-enum-told : tie.Need-enum-told
-enum-told c = search needs
+is-fair-requires : tie.Need-is-fair-requires
+is-fair-requires c κs = search needs
 
 uncoded-as-requires : tie.Need-uncoded-as-requires
 uncoded-as-requires c κs = search needs
 
-enum-known-asked : tie.Need-enum-known-asked
-enum-known-asked c = search needs
-
--- the cards dealt stand in the pile
-in-pile : (c : tie.After-asked) → c .asked .given .0 .0 ≤ length (c .before .before .deal-out .last .1 .1 .0)
-in-pile c = so-long _ _ _ _ _ _ (c .before .before .deal-out .ensures) _ (c .asked .given .1)
-
--- the table is as long as it was
-long-table : (c : tie.After-asked) → length (c .before .before .deal-out .last .1 .0) ≡ 320
-long-table c =
-    let d = c .before .before in
-    as-long _ _ _ _ _ _ (d .deal-out .ensures) _ (c .asked .given .1)
-    ∙ length-replicate {A = ℕ} 320 0
-
-slice-aggregate-encode-fair : tie.Need-slice-aggregate-encode-fair
-slice-aggregate-encode-fair c = sym (long-table (c .before .before))
-
-array-borrow-prefix-pile : tie.Need-array-borrow-prefix-pile
-array-borrow-prefix-pile c = in-pile (c .before .before)
-
-slice-aggregate-encode-fair-2 : tie.Need-slice-aggregate-encode-fair-2
-slice-aggregate-encode-fair-2 c =
-    let a = c .before .before .before in
-    omega (arith, length-take (a .asked .given .0 .0) (a .before .before .deal-out .last .1 .1 .0), in-pile a)
-
-encode-fair-requires : tie.Need-encode-fair-requires
-encode-fair-requires c κs =
-    let a = c .before .before .before in
-    let d = a .before .before in
-    let long : 320 ≤ length (replicate {A = ℕ} 320 0) = omega (arith, length-replicate {A = ℕ} 320 0) in (
-      so-fair _ _ _ _ _ _ (d .deal-out .ensures) _ (a .asked .given .1),
-      so-laid _ _ _ _ _ _ (d .deal-out .ensures) _ (a .asked .given .1) long,
-      so-dealt _ _ _ _ _ _ (d .deal-out .ensures) _ (a .asked .given .1),
-    )
-
 returns : tie.Need-returns
-returns c =
-    let told = c .before in
-    c .uncoded-as .ensures ∙ encoded-is _ false (no-cards _ _ _ _ _ _ (told .before .before .deal-out .ensures) (told .enum-told .given .1))
+returns c = c .uncoded-as .ensures ∙ encoded-is _ false (sym (c .before .before .is-fair .ensures) ∙ not-true _ (c .before .if1 .taken))
+
+draw-requires : tie.Need-draw-requires
+draw-requires c κs = search needs
+
+array-borrow-prefix-fs : tie.Need-array-borrow-prefix-fs
+array-borrow-prefix-fs c = drew-fits (c .draw .ensures)
+
+slice-aggregate-encode-families : tie.Need-slice-aggregate-encode-families
+slice-aggregate-encode-families c = sym (length-take-le (c .before .draw .result) (c .before .draw .last .1 .0) (drew-fits (c .before .draw .ensures)))
+
+encode-families-requires : tie.Need-encode-families-requires
+encode-families-requires c κs = let d = c .before in
+    asked-of _ (so-fair d) _ (drew-words (d .draw .ensures))
 
 returns-2 : tie.Need-returns-2
-returns-2 c =
-    let a = c .before .before .before .before .before in
-    c .before .encode-fair .ensures ∙ encoded-is _ true (so-fair _ _ _ _ _ _ (a .before .before .deal-out .ensures) _ (a .asked .given .1))
+returns-2 c = let d = c .before .before .before in
+    let t = d .before .before .before .before .args .t in
+    c .before .encode-families .ensures
+    ∙ ap (λ (fs : List ℕ). encodedFor (t .head .states) (t .head .width) (liveIn (t .head .states) [] fs)) (drew-words (d .draw .ensures))
+    ∙ ap (encodedFor (t .head .states) (t .head .width)) (drawn-live t (so-fair d))
+    ∙ encoded-for t (so-fair d)
+    ∙ encoded-is t true (so-fair d)
 
 pub encode-spec : {M : Type 1} → statement M
 encode-spec =
     tie.close
     (tie.spec
-    deal-out-requires
-    enum-told
+    is-fair-requires
     uncoded-as-requires
-    enum-known-asked
-    slice-aggregate-encode-fair
-    array-borrow-prefix-pile
-    slice-aggregate-encode-fair-2
-    encode-fair-requires
     returns
+    draw-requires
+    array-borrow-prefix-fs
+    slice-aggregate-encode-families
+    encode-families-requires
     returns-2)

@@ -6,7 +6,7 @@ use lib.ListN.{length, take}
 use borrow.Author.Needs.{needs}
 use Rattle.pen.specs.Pen.{Wrote}
 use Rattle.pen.proofs.Laws.{wrote-none, wrote-then, wrote-as, wrote-same}
-use Rattle.pen.proofs.Growing.{take-most}
+use Rattle.sets.proofs.Places.{take-most}
 use Rattle.covers.specs.Covers.{rowTexts}
 use Rattle.covers.proofs.Whole.{rows-none, rows-more}
 use Rattle.covers.proofs.put_rows.Statement.{statement}

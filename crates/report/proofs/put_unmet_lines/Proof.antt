@@ -1,61 +1,59 @@
--- `report::put_unmet_lines` meets its contract. The loop's invariant: what is written is the lines of the first k requirements.
-use mathlib.Core.Path.{sym, ap}
+-- `report::put_unmet_lines` meets its contract.
+use Rattle.code_drawing.proofs.Whole.{few-all}
+use lib.ListN.{length-map, length-take, length}
+use lib.Seq.{length-take-le}
+use Rattle.rules.specs.Limits.{most-rows, most-dichotomies}
+use Rattle.families.specs.Families.{requirementsIn}
+use Rattle.code_drawing.proofs.Growing.{drew-words, drew-fits}
+use Rattle.pen.proofs.Laws.{wrote-as}
+use Rattle.report.specs.Report.{linesOf}
+use Prim.Native.Nat.{ℕ}
+use mathlib.Core.Path.{_≡_, sym, ap, _∙_}
 use mathlib.Core.List.{List}
-use Prim.Native.Nat.{ℕ, _≤_, _-_}
 use native.Mathlib.Omega.{arith}
-use lib.ListN.{length, take}
-use lib.Seq.{take-all}
 use borrow.Author.Needs.{needs}
-use Rattle.pen.specs.Pen.{Wrote}
-use Rattle.pen.proofs.Laws.{wrote-none, wrote-then, wrote-as, wrote-same}
-use Rattle.report.specs.Report.{unmetIn, unmetLines}
-use Rattle.report.proofs.Unmet.{lines-none, lines-one}
 use Rattle.report.proofs.put_unmet_lines.Statement.{statement}
 use Rattle.report.proofs.put_unmet_lines.Tie as tie
 
-abbrev Inv-loop : tie.InvT-loop
-Inv-loop out₀ at by k₀ to₀ out k to = (k ≤ length by) × Wrote out₀ at (unmetLines (unmetIn 0 (take k by))) to out
+-- the places of the listing's tables
+table : (s : tie.Start) → length (s .args .t .table) ≡ most-rows
+table s = sym (length-map (s .args .t .table) _) ∙ s .good .1 .1 .0 .1 .1 .1 .1 .0 .1 .0 .1
 
-abbrev μ-loop : tie.MeasureT-loop
-μ-loop out₀ at by k₀ to₀ out k to = length by - k
+asked : (s : tie.Start) → length (s .args .t .asked) ≡ most-dichotomies
+asked s = sym (length-map (s .args .t .asked) _) ∙ s .good .1 .1 .0 .1 .1 .1 .1 .1 .1 .0 .1 .0 .1
 
-loop-holds : tie.Need-loop-holds Inv-loop μ-loop
-loop-holds c = (search needs, wrote-as (wrote-none _ _ (omega arith) (omega arith)) (sym lines-none))
+draw-all-requires : tie.Need-draw-all-requires
+draw-all-requires c κs = search needs
 
-shared-slice-read-put-if-unmet : tie.Need-shared-slice-read-put-if-unmet Inv-loop μ-loop
-shared-slice-read-put-if-unmet c = search needs
+array-share-prefix-fs : tie.Need-array-share-prefix-fs
+array-share-prefix-fs c =
+    drew-fits (c .before .draw-all .ensures)
 
-put-if-unmet-requires : tie.Need-put-if-unmet-requires Inv-loop μ-loop
-put-if-unmet-requires c κs = search needs
+slice-aggregate-put-families : tie.Need-slice-aggregate-put-families
+slice-aggregate-put-families c =
+    sym (length-take-le _ _ (drew-fits (c .before .before .draw-all .ensures)))
 
-add-k : tie.Need-add-k Inv-loop μ-loop
-add-k c = search needs
+put-families-requires : tie.Need-put-families-requires
+put-families-requires c κs =
+    let d = c .before .before .draw-all .ensures in
+    let s = c .before .before .before .before .before .before in
+    omega (arith, length-take (c .before .before .draw-all .result) (c .before .before .draw-all .last .1 .0), d .count, few-all (s .args .t) (table s) (asked s))
 
-loop-less : tie.Need-loop-less Inv-loop μ-loop
-loop-less c = search needs
+same-length : tie.Need-same-length
+same-length c = search needs
 
-loop-again : tie.Need-loop-again Inv-loop μ-loop
-loop-again c =
-    let more = lines-one (c .before .before .before .before .before .before .before .before .before .args .by .now) (c .before .before .before .before .before .before .loop .k) (omega arith) in
-    (search needs, wrote-as (wrote-then (c .before .before .before .before .before .before .loop .inv .1) (c .before .before .put-if-unmet .ensures)) (sym more))
-
-same-length : tie.Need-same-length Inv-loop μ-loop
-same-length c = wrote-same (c .before .loop .inv .1)
-
-returns : tie.Need-returns Inv-loop μ-loop
-returns c = wrote-as (c .before .loop .inv .1) (ap (λ (l : List ℕ). unmetLines (unmetIn 0 l)) (take-all (c .before .loop .k) _ (omega arith)))
+returns : tie.Need-returns
+returns c =
+    let s = c .before .before .before .before .before .before .before .before .before in
+    wrote-as (c .before .before .put-families .ensures) (ap (λ (fs : List ℕ). linesOf 0 (s .args .bits .now) (requirementsIn fs)) (drew-words (c .before .before .before .before .before .draw-all .ensures)))
 
 pub put-unmet-lines-spec : {M : Type 1} → statement M
 put-unmet-lines-spec =
     tie.close
     (tie.spec
-    Inv-loop
-    μ-loop
-    loop-holds
-    shared-slice-read-put-if-unmet
-    put-if-unmet-requires
-    add-k
-    loop-less
-    loop-again
+    draw-all-requires
+    array-share-prefix-fs
+    slice-aggregate-put-families
+    put-families-requires
     same-length
     returns)

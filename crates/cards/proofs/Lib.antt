@@ -1,9 +1,0 @@
-pub mod Dealing
-pub mod States
-pub mod Rows
-pub mod DealtOut
-pub mod Answers
-pub mod Numbers
-pub mod Drawn
-pub mod Twin
-pub mod FairListings

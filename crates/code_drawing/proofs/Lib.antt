@@ -1,0 +1,8 @@
+pub mod Growing
+pub mod Standing
+pub mod Words
+pub mod Groups
+pub mod Whole
+pub mod Pairs
+pub mod Requirements
+pub mod Within

@@ -1,0 +1,4 @@
+pub mod Ways
+pub mod Counted
+pub mod Wide
+pub mod Judgement

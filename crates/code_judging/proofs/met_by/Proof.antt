@@ -1,0 +1,71 @@
+-- `code_judging::met_by` meets its contract: the bits still to come decide as all of them do.
+use borrow.Author.Needs.{needs}
+use Rattle.rules.specs.Requirements.{asks, metByCode}
+use Rattle.code_judging.proofs.Ways.{code-met, code-later, code-none}
+use Prim.Native.Nat.{_≤_, _-_}
+use mathlib.Core.Path.{_≡_, refl, sym, _∙_}
+use native.Mathlib.Omega.{arith}
+use lib.ListN.{length, drop}
+use Rattle.code_judging.proofs.met_by.Statement.{statement}
+use Rattle.code_judging.proofs.met_by.Tie as tie
+
+abbrev Inv-loop : tie.InvT-loop
+Inv-loop bits first second k₀ k =
+    (k ≤ length bits) × (metByCode 64 (drop k bits) (asks first second) ≡ metByCode 64 bits (asks first second))
+
+abbrev μ-loop : tie.MeasureT-loop
+μ-loop bits first second k₀ k =
+    length bits - k
+
+loop-holds : tie.Need-loop-holds Inv-loop μ-loop
+loop-holds c =
+    (search needs, refl)
+
+mul-meets : tie.Need-mul-meets Inv-loop μ-loop
+mul-meets c = search needs
+
+shared-slice-read-meets : tie.Need-shared-slice-read-meets Inv-loop μ-loop
+shared-slice-read-meets c = search needs
+
+meets-requires : tie.Need-meets-requires Inv-loop μ-loop
+meets-requires c κs = search needs
+
+returns : tie.Need-returns Inv-loop μ-loop
+returns c =
+    let l = c .before .before .before .before in
+    let s = l .before .before in
+    sym (code-met 64 (s .args .bits .now) (asks (s .args .first) (s .args .second)) (l .loop .k) (omega arith) (sym (c .before .meets .ensures) ∙ c .if1 .taken)) ∙ l .loop .inv .1
+
+add-k : tie.Need-add-k Inv-loop μ-loop
+add-k c = search needs
+
+loop-less : tie.Need-loop-less Inv-loop μ-loop
+loop-less c = search needs
+
+loop-again : tie.Need-loop-again Inv-loop μ-loop
+loop-again c =
+    let l = c .before .before .before .before in
+    let s = l .before .before in
+    (search needs, sym (code-later 64 (s .args .bits .now) (asks (s .args .first) (s .args .second)) (l .loop .k) (omega arith) (sym (c .before .meets .ensures) ∙ c .if1 .left)) ∙ l .loop .inv .1)
+
+returns-2 : tie.Need-returns-2 Inv-loop μ-loop
+returns-2 c =
+    let l = c .before in
+    let s = l .before .before in
+    sym (code-none 64 (s .args .bits .now) (asks (s .args .first) (s .args .second)) (l .loop .k) (omega arith)) ∙ l .loop .inv .1
+
+pub met-by-spec : {M : Type 1} → statement M
+met-by-spec =
+    tie.close
+    (tie.spec
+    Inv-loop
+    μ-loop
+    loop-holds
+    mul-meets
+    shared-slice-read-meets
+    meets-requires
+    returns
+    add-k
+    loop-less
+    loop-again
+    returns-2)

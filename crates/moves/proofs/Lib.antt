@@ -1,4 +1,0 @@
-pub mod Lists
-pub mod Ready
-pub mod Looks
-pub mod Shows

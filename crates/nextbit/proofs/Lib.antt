@@ -1,3 +1,0 @@
-pub mod NextBit
-pub mod Live
-pub mod Counters
