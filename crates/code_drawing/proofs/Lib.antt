@@ -5,3 +5,4 @@ pub mod Groups
 pub mod Whole
 pub mod Pairs
 pub mod Requirements
+pub mod OneAnswer
