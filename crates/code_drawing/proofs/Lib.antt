@@ -6,3 +6,4 @@ pub mod Whole
 pub mod Pairs
 pub mod Requirements
 pub mod Within
+pub mod OneAnswer
