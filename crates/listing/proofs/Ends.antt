@@ -9,11 +9,12 @@ use lib.Seq.{take-all}
 use lib.Dec.{eqb}
 use borrow.Author.Tests.{eq-eqb, ne-eqb}
 use Rattle.rules.specs.Text.{push, split, linesOf, markOf, markIs}
-use Rattle.rules.specs.Listing.{nothing, isMc, placed, accepted, refused, ended, unended}
+use Rattle.rules.specs.Listing.{nothing, isMc, placed, accepted, refused, ended, unended, checked}
 use Rattle.rules.specs.declared.Listing.{Listing}
 use Rattle.rules.specs.declared.Mark.{Mark}
 use Rattle.rules.specs.declared.Refusal.the-variants.{BadLine, Place}
 use Rattle.pieces.proofs.Laws.{part, split-some}
+use Rattle.listing.proofs.Whole.{checked-refused}
 
 -- ---- bytes behind `EN`
 
@@ -61,3 +62,13 @@ pub unended-some : (k : ℕ) (l : List ℕ) {t : Bool} → (length l ≡ 0 → �
 unfolding unended
 unended-some k [] h e = absurd (h refl)
 unended-some k (x ∷ xs) h e = rw e
+
+-- it is refused either way
+pub checked-unended : (k : ℕ) (l : List ℕ) → checked (unended k l) ≡ unended k l
+unfolding unended
+checked-unended k [] = checked-refused Place k
+checked-unended k (x ∷ xs) = go (placed k (markIs (markOf (x ∷ xs))))
+  where
+    go : (t : Bool) → checked (cond t (refused BadLine k) (refused Place k)) ≡ cond t (refused BadLine k) (refused Place k)
+    go true = checked-refused BadLine k
+    go false = checked-refused Place k

@@ -1,5 +1,5 @@
 pub mod Saying
 pub mod Room
 pub mod Steps
-pub mod Ends
 pub mod Whole
+pub mod Ends

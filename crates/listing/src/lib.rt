@@ -4,7 +4,7 @@ mod says;
 ghost use mathlib.Core.Path.{_≡_};
 ghost use mathlib.Core.Bool.{cond};
 ghost use Rattle.rules.specs.Text.{linesOf};
-ghost use Rattle.rules.specs.Listing.{blank, rowsOf, accepted, refused, nothing, isMc, placed, unended, readLines, conflict, judged, reading};
+ghost use Rattle.rules.specs.Listing.{blank, accepted, refused, nothing, isMc, placed, unended, readLines, checked, reading};
 ghost use Rattle.rules.specs.declared.Refusal.the-variants.{Place};
 use rules::Head;
 use rules::Listing;
@@ -59,16 +59,20 @@ fn refuse(r: Refusal, line: usize) -> Reading
     }
 }
 
-// After `EN`: bytes behind it are 3, on the line after its own.
+// After `EN`: bytes behind it are 3, on the line after its own; else the listing, unless two of its rows clash.
 fn finish(next: usize, t: Listing, rest: &[u8]) -> Reading
-    ensures { λ r. ⌜ r ≡ cond (nothing (linesOf (now (rest .entry)))) (accepted t) (refused Place next) ⌝ }
+    ensures { λ r. ⌜ r ≡ checked (cond (nothing (linesOf (now (rest .entry)))) (accepted t) (refused Place next)) ⌝ }
 {
     if rest.len() != 0 {
         return refuse(Refusal::Place, next);
     }
-    Reading {
-        verdict: Verdict::Accepted,
-        listing: t,
+    let verdict = conflict::first_clash(t);
+    match verdict {
+        Verdict::Refused(r, line) => refuse(r, line),
+        Verdict::Accepted => Reading {
+            verdict: Verdict::Accepted,
+            listing: t,
+        },
     }
 }
 
@@ -109,7 +113,7 @@ fn break_off(k: usize, l: &[u8]) -> Reading
 
 // The lines from the top, until one of them decides.
 fn read_lines(s: &[u8]) -> Reading
-    ensures { λ r. ⌜ r ≡ readLines 1 blank (linesOf (now (s .entry))) ⌝ }
+    ensures { λ r. ⌜ r ≡ checked (readLines 1 blank (linesOf (now (s .entry)))) ⌝ }
 {
     let mut t = blank_listing();
     let mut k: usize = 1;
@@ -139,20 +143,6 @@ fn read_lines(s: &[u8]) -> Reading
     break_off(k, &s[at..])
 }
 
-// The listing, unless two of its rows clash.
-fn judge(t: Listing) -> Reading
-    ensures { λ r. ⌜ r ≡ judged (conflict (rowsOf t)) t ⌝ }
-{
-    let verdict = conflict::first_clash(t);
-    match verdict {
-        Verdict::Refused(r, line) => refuse(r, line),
-        Verdict::Accepted => Reading {
-            verdict: Verdict::Accepted,
-            listing: t,
-        },
-    }
-}
-
 // Any bytes at all: the listing, or the refusal and its line.
 pub fn read_listing(bytes: &[u8]) -> Reading
     ensures { λ r. ⌜ r ≡ reading (now (bytes .entry)) ⌝ }
@@ -160,11 +150,5 @@ pub fn read_listing(bytes: &[u8]) -> Reading
     if rules::MOST_BYTES < bytes.len() {
         return refuse(Refusal::Limit, 0);
     }
-    let read = read_lines(bytes);
-    let verdict = read.verdict;
-    let listing = read.listing;
-    match verdict {
-        Verdict::Refused(r, line) => refuse(r, line),
-        Verdict::Accepted => judge(listing),
-    }
+    read_lines(bytes)
 }

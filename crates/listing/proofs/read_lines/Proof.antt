@@ -7,14 +7,15 @@ use lib.ListN.{length, drop}
 use borrow.Author.Needs.{needs}
 use Rattle.rules.specs.Limits.{most-rows, most-dichotomies}
 use Rattle.rules.specs.Text.{lf, linesOf}
-use Rattle.rules.specs.Listing.{blank, readLines}
+use Rattle.rules.specs.Listing.{blank, readLines, checked}
 use Rattle.rules.specs.declared.Listing.{Listing}
 use Rattle.rules.specs.declared.Reading.{Reading}
 use Rattle.pieces.proofs.Laws.{Cut, cut-of}
 use Rattle.listing.specs.declared.says.Said.{Said}
 use Rattle.listing.specs.Says.{stepOf}
 use Rattle.listing.proofs.Room.{said-room}
-use Rattle.listing.proofs.Ends.{ended-is}
+use Rattle.listing.proofs.Ends.{ended-is, checked-unended}
+use Rattle.listing.proofs.Whole.{checked-refused}
 use Rattle.listing.proofs.Steps.{behind, read-line, read-last}
 use Rattle.listing.proofs.read_lines.Statement.{statement}
 use Rattle.listing.proofs.read_lines.Tie as tie
@@ -67,7 +68,7 @@ refuse-requires : tie.Need-refuse-requires Inv-loop μ-loop
 refuse-requires c κs = search needs
 
 returns : tie.Need-returns Inv-loop μ-loop
-returns c = c .refuse .ensures ∙ all-lines (c .before .before .before .before) (c .before .before .said .given .1)
+returns c = c .refuse .ensures ∙ sym (checked-refused _ _) ∙ ap checked (all-lines (c .before .before .before .before) (c .before .before .said .given .1))
 
 enum-told : tie.Need-enum-told Inv-loop μ-loop
 enum-told c = search needs
@@ -91,7 +92,7 @@ returns-2 : tie.Need-returns-2 Inv-loop μ-loop
 returns-2 c =
     let d = c .before .before .before .before in
     let l = d .before .before .before .before .loop in
-    c .finish .ensures ∙ sym (ended-is (l .k) (l .t) _ (l .end + 1)) ∙ all-lines d (c .before .before .enum-told .given .1)
+    c .finish .ensures ∙ ap checked (sym (ended-is (l .k) (l .t) _ (l .end + 1)) ∙ all-lines d (c .before .before .enum-told .given .1))
 
 enum-known-said-2 : tie.Need-enum-known-said-2 Inv-loop μ-loop
 enum-known-said-2 c = search needs
@@ -172,7 +173,7 @@ break-off-requires c κs = search needs
 returns-3 : tie.Need-returns-3 Inv-loop μ-loop
 returns-3 c =
     let l = c .before .before .before .loop in
-    c .break-off .ensures ∙ sym (read-last (l .k) (l .t) _ (l .at) (l .end) (l .inv .0) (omega arith)) ∙ l .inv .2
+    c .break-off .ensures ∙ sym (checked-unended (l .k) _) ∙ ap checked (sym (read-last (l .k) (l .t) _ (l .at) (l .end) (l .inv .0) (omega arith)) ∙ l .inv .2)
 
 pub read-lines-spec : {M : Type 1} → statement M
 read-lines-spec =
