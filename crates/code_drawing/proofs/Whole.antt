@@ -1,10 +1,10 @@
 -- The families of a listing drawn in one go: how many words they take, and those drawn behind others.
 use mathlib.Core.Path.{_≡_, refl, ap}
-use mathlib.Core.List.{List, [], _∷_, _++_}
+use mathlib.Core.List.{List, [], _∷_, _++_, append-assoc}
 use Prim.Native.Nat.{ℕ, zero, suc, _+_, _*_, _-_, _≤_, min}
 use native.Mathlib.Omega.{arith}
-use lib.ListN.{length, take, length-append, length-take}
-use lib.Seq.{length-take-le}
+use lib.ListN.{length, take, drop, length-append, length-take}
+use lib.Seq.{length-take-le, take-append-seam}
 use Rattle.rules.specs.Limits.{most-states, most-rows, most-dichotomies}
 use Rattle.rules.specs.Listing.{rowsOf, dichotomiesOf}
 use Rattle.rules.specs.declared.Row.{Row}
@@ -63,3 +63,22 @@ few-all t long wide =
       dichotomies-length (dichotomiesOf t),
       length-take (t .dichotomies) (t .asked),
     )
+
+-- those of the pairs and the groups stand before the dichotomies'
+module _ (t : Listing) (wide : length (t .asked) ≡ most-dichotomies) (few : t .dichotomies ≤ most-dichotomies) where
+  pub all-length : length (allFamilies t) ≡ length (firstFamilies t) + 3 * t .dichotomies
+  unfolding allFamilies
+  all-length =
+      omega (
+        arith,
+        length-append (firstFamilies t) (dichotomyWords (dichotomiesOf t)),
+        dichotomies-length (dichotomiesOf t),
+        length-take (t .dichotomies) (t .asked),
+      )
+
+  pub first-words : {came is : List ℕ} {k : ℕ} → Drew came (allFamilies t) k is → take (k - 3 * t .dichotomies) is ≡ firstFamilies t
+  unfolding allFamilies
+  first-words {came} {is} {k} d =
+      let e : k - 3 * t .dichotomies ≡ length (firstFamilies t) = omega (arith, d .count, all-length) in
+      rw (e, d .holds, append-assoc (firstFamilies t) (dichotomyWords (dichotomiesOf t)) (drop k came))
+      (take-append-seam (firstFamilies t) (dichotomyWords (dichotomiesOf t) ++ drop k came))

@@ -4,9 +4,10 @@ use mathlib.Core.Bool.{Bool, true, false, cond}
 use mathlib.Core.List.{List}
 use Prim.Native.Nat.{ℕ, _≤_, _<_}
 use native.Mathlib.Omega.{arith}
-use borrow.Author.Tests.{leb-true}
+use borrow.Author.Tests.{le-leb, lt-leb}
 use lib.Dec.{leb}
 use lib.ListN.{length, take, length-take}
+use lib.Seq.{take-all}
 use Rattle.rules.specs.Listing.{reading}
 use Rattle.rules.specs.Requirements.{requirements, pairsAndGroups}
 use Rattle.rules.specs.Code.{uncoded, coding, unmetFrom, unmet}
@@ -22,7 +23,7 @@ use Rattle.rules.proofs.Sound.{Sound, accepted-sound, rows-length}
 use Rattle.encoding.specs.Encode.{encoded}
 use Rattle.pen.specs.Pen.{Wrote}
 use Rattle.pen.proofs.Laws.{wrote-all, wrote-length}
-use Rattle.report.specs.Report.{encodedReport, anyUnmet}
+use Rattle.report.specs.Report.{most-words, firstOf, encodedReport, anyUnmet}
 use Rattle.report.proofs.Same.{same-report, same-judged}
 use Rattle.report.proofs.Length.{report-length, unmet-few}
 use Rattle.fair.specs.Fair.{fair}
@@ -30,10 +31,13 @@ use Rattle.fair.proofs.FairListings.{sound-fair}
 use Rattle.rules.specs.Limits.{most-asked}
 use Rattle.rules.proofs.Good.{AllGood, requirements-good}
 use Rattle.rules.proofs.Most.{most-requirements}
+use Rattle.families.specs.Families.{requirementsIn}
+use Rattle.code_drawing.specs.Drawing.{firstFamilies, allFamilies}
 use Rattle.code_drawing.proofs.Requirements.{all-are}
+use Rattle.code_drawing.proofs.Whole.{few-all}
 use Rattle.covers.specs.Covers.{Bounded}
 use Rattle.covers.proofs.Length.{cover-length}
-use Rattle.replies.specs.Saying.{saying, Whole, textOf, withheld, replyOf, replyTo}
+use Rattle.replies.specs.Saying.{room, saying, Whole, replyOf, replyTo}
 use Rattle.replies.specs.declared.Wanted.{Wanted}
 use Rattle.replies.specs.declared.Said.{Said}
 use Rattle.replies.proofs.Encodings.{no-code}
@@ -80,18 +84,17 @@ no-reply w t s out e h r k v =
 
 -- ---- a text
 
-pub told-length : {d text a : List ℕ} {n : ℕ} → Wrote d 0 text n a → length text < 100000 → n ≡ length text
+pub told-length : {d text a : List ℕ} {n : ℕ} → Wrote d 0 text n a → length text < room → n ≡ length text
 told-length w few = wrote-length w (omega arith)
 
-pub no-space : (text out : List ℕ) (b : Bool) → b ≡ leb (length text) (length out) → b ≡ false → (Said.Refused NoRoom 0, out) ≡ saying (says text) out
+pub no-space : (text out : List ℕ) (n : ℕ) → length out < n → n ≡ length text → (Said.Refused NoRoom 0, out) ≡ saying (says text) out
 unfolding saying
-no-space text out b e h = rw (sym e ∙ h) refl
+no-space text out n h e = rw (lt-leb (length text) (length out) (omega arith)) refl
 
-pub written : (text out after : List ℕ) (n : ℕ) (b : Bool) → b ≡ leb (length text) (length out) → b ≡ true → length text < 100000 → Wrote out 0 text n after
-    → (Said.Text n, after) ≡ saying (says text) out
+pub written : (text out after : List ℕ) (n : ℕ) → length text ≤ length out → length text < room → Wrote out 0 text n after → (Said.Text n, after) ≡ saying (says text) out
 unfolding saying
-written text out after n b e h few w =
-    rw (sym e ∙ h) (ap₂ (λ (k : ℕ) (y : List ℕ). (Said.Text k, y)) (told-length w few) (wrote-all w (leb-true (length text) (length out) (sym e ∙ h))))
+written text out after n fits few w =
+    rw (le-leb (length text) (length out) fits) (ap₂ (λ (k : ℕ) (y : List ℕ). (Said.Text k, y)) (told-length w few) (wrote-all w fits))
 
 -- ---- of a code
 
@@ -105,15 +108,19 @@ module _ (t : Listing) (e : Encoding) (w : Whole t e) where
   few-asked : length (requirements t) ≤ most-asked
   few-asked = most-requirements t (w .sound)
 
+  few-first : length (requirementsIn (firstOf (allFamilies t))) ≤ most-asked
+  few-first =
+      omega (arith, few-asked, ap length (ap requirementsIn (take-all most-words (allFamilies t) (few-all t (w .sound .table) (w .sound .asked))) ∙ all-are t is-fair))
+
   few-unmet : length (unmet t (w .code .bits)) ≤ most-asked
   unfolding unmet
   few-unmet = omega (arith, few-asked, unmet-few 0 (t .head .states) (w .code .bits) (requirements t))
 
-  pub report-few : length (encodedReport t e) < 100000
+  pub report-few : length (encodedReport (t .head .states) (allFamilies t) e) < room
   report-few =
       omega (
         arith,
-        report-length t e (w .sound .head .few-states) (omega (arith, few-asked, ap length (all-are t is-fair))) (w .narrow) (omega (arith, few-asked, w .holds .asked)) (omega (arith, few-unmet, w .holds .unmet))
+        report-length (t .head .states) (allFamilies t) e (w .sound .head .few-states) few-first (w .narrow) (omega (arith, few-asked, w .holds .asked)) (omega (arith, few-unmet, w .holds .unmet))
             (w .few-passes)
             (w .few-looks),
       )
@@ -121,14 +128,18 @@ module _ (t : Listing) (e : Encoding) (w : Whole t e) where
   pub bounded : Bounded (t .head)
   bounded = record { inputs = w .sound .head .few-inputs; outputs = w .sound .head .few-outputs }
 
-  pub cover-few : length (cover t (take (e .width) (e .bits))) < 100000
+  pub cover-few : length (cover t (take (e .width) (e .bits))) < room
   cover-few =
       omega (arith, cover-length t (take (e .width) (e .bits)) bounded (omega (arith, rows-length t (w .sound), w .sound .few-rows)) (omega (arith, length-take (e .width) (e .bits), w .narrow)))
 
-  pub few : (k : Wanted) → length (textOf k t e) < 100000
-  unfolding textOf
-  few Wanted.Report = report-few
-  few Wanted.Cover = cover-few
+  -- ---- what is said in a code
+
+  -- the report is never withheld
+  pub report-said : (k : Wanted) → k ≡ Wanted.Report → says (encodedReport (t .head .states) (allFamilies t) e) ≡ replyOf k t
+  unfolding replyOf reportReply
+  report-said k h =
+      ap says (same-report t is-fair good (w .sound .table) (w .sound .asked) (w .code) e (w .holds))
+      ∙ sym (ap (λ (x : Wanted). replyOf x t) h ∙ ap (reportOf t) (w .is))
 
   abbrev unmetFirst : ℕ
   unmetFirst = length (unmetFrom 0 (t .head .states) (take (e .width) (e .bits)) (pairsAndGroups t))
@@ -140,18 +151,8 @@ module _ (t : Listing) (e : Encoding) (w : Whole t e) where
       ∙ ap (λ (x : List ℕ). cond (leb 1 (length (unmetFrom 0 (t .head .states) x (pairsAndGroups t)))) (refuses Unmet 0) (says (cover t x))) (sym (w .holds .bits))
       ∙ ap (λ (x : Bool). cond x (refuses Unmet 0) (says (cover t (take (e .width) (e .bits))))) q
 
-  -- 9, or the text
-  replied-as : (k : Wanted) (b : Bool) → withheld k t e ≡ b → replyOf k t ≡ cond b (refuses Unmet 0) (says (textOf k t e))
-  unfolding replyOf withheld textOf reportReply
-  replied-as Wanted.Report b q = ap (reportOf t) (w .is) ∙ sym (ap says (same-report t is-fair good (w .code) e (w .holds))) ∙ ap (λ (x : Bool). cond x (refuses Unmet 0) (says (encodedReport t e))) q
-  replied-as Wanted.Cover b q = cover-as b q
-
-  pub is-withheld : (k : Wanted) (b : Bool) → b ≡ withheld k t e → b ≡ true → refuses Unmet 0 ≡ replyOf k t
-  is-withheld k b q h = sym (replied-as k true (sym q ∙ h))
-
-  pub is-said : (k : Wanted) (b : Bool) → b ≡ withheld k t e → b ≡ false → says (textOf k t e) ≡ replyOf k t
-  is-said k b q h = sym (replied-as k false (sym q ∙ h))
-
-  -- the pairs and the groups are judged as 01 says
-  pub first-unmet : anyUnmet t e ≡ leb 1 unmetFirst
-  first-unmet = same-judged t is-fair good e
+  -- the cover is, by whether a pair or a group requirement is unmet
+  pub cover-said : (k : Wanted) (b : Bool) → k ≡ Wanted.Cover → b ≡ anyUnmet (firstFamilies t) e → cond b (refuses Unmet 0) (says (cover t (take (e .width) (e .bits)))) ≡ replyOf k t
+  unfolding replyOf
+  cover-said k b h q =
+      sym (ap (λ (x : Wanted). replyOf x t) h ∙ cover-as b (sym (q ∙ same-judged t is-fair good (w .sound .table) (w .sound .asked) e)))

@@ -33,7 +33,7 @@ module _ (t : Listing) (s : Sound t) where
   report-as : (a : Coding) → coding t ≡ a → Small (reportOf t a)
   unfolding reportReply
   report-as (coded c) q =
-      subst (λ (x : List ℕ). length x < 100000) (same-report t (sound-fair t s) (requirements-good t s) c (encodedAs t (coded c)) (held t s c q)) (report-few t (encodedAs t (coded c)) (whole-as t s c q))
+      subst (λ (x : List ℕ). length x < 100000) (same-report t (sound-fair t s) (requirements-good t s) (s .table) (s .asked) c (encodedAs t (coded c)) (held t s c q)) (report-few t (encodedAs t (coded c)) (whole-as t s c q))
   report-as (uncoded r) q = omega arith
 
   cover-as : (a : Coding) → coding t ≡ a → Small (coverOf t a)

@@ -30,21 +30,11 @@ unfolding coverOf coding
 replyOf Wanted.Report t = reportOf t (coding t)
 replyOf Wanted.Cover t = coverOf t (coding t)
 
--- ---- the same from an encoding
-
--- the text
-unfoldable pub textOf : Wanted → Listing → Encoding → List ℕ
-unfolding cover encodedReport
-textOf Wanted.Report t e = encodedReport t e
-textOf Wanted.Cover t e = cover t (take (e .width) (e .bits))
-
--- whether it is withheld, 9
-unfoldable pub withheld : Wanted → Listing → Encoding → Bool
-unfolding unmetFrom pairsAndGroups
-withheld Wanted.Report t e = false
-withheld Wanted.Cover t e = leb 1 (length (unmetFrom 0 (t .head .states) (take (e .width) (e .bits)) (pairsAndGroups t)))
-
 -- ---- what is said, and the buffer
+
+-- so many bytes are always enough
+abbrev pub room : ℕ
+room = 100000
 
 -- The text where it fits, with the bytes behind it as they came; where not, 10, and where it is refused, that: the buffer is then as it came.
 unfoldable pub saying : Reply → List ℕ → Said × List ℕ

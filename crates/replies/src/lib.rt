@@ -1,14 +1,12 @@
 // What is said of any bytes: the report or the cover, written where there is room, or a refusal with its line.
 ghost use mathlib.Core.Path.{_≡_};
-ghost use lib.Dec.{leb};
+ghost use Prim.Native.Nat.{_<_};
 ghost use lib.ListN.{length, take};
-ghost use Rattle.rules.specs.Requirements.{pairsAndGroups};
-ghost use Rattle.rules.specs.Code.{unmetFrom};
-ghost use Rattle.rules.specs.declared.Refusal.the-variants.{NoRoom};
+ghost use Rattle.rules.specs.Cover.{cover};
 ghost use Rattle.rules.specs.Answers.{says};
 ghost use Rattle.rules.proofs.Sound.{Sound};
-ghost use Rattle.pen.specs.Pen.{Wrote};
-ghost use Rattle.replies.specs.Saying.{saying, Whole, textOf, withheld, replyOf, replyTo};
+ghost use Rattle.report.specs.Report.{encodedReport};
+ghost use Rattle.replies.specs.Saying.{room, saying, Whole, replyOf, replyTo};
 
 // So many bytes of room are always enough.
 pub const ROOM: usize = 100000;
@@ -25,71 +23,52 @@ pub enum Said {
     Refused(rules::Refusal, usize),
 }
 
-// The text wanted, from the buffer's start.
-fn put_text(out: &mut [u8], wanted: Wanted, t: rules::Listing, e: rules::Encoding) -> usize
-    requires { ⌜ Whole t e ⌝ }
-    ensures { λ r. ⌜ Wrote (now (out .entry)) 0 (textOf wanted t e) r (now (out .exit)) ⌝ }
+// The report, where it fits. Where that is not plain, a first writing into one byte tells how long it is.
+fn say_report(n: usize, e: rules::Encoding, fs: &[u64], out: &mut [u8]) -> Said
+    requires { ⌜ length (encodedReport n (now fs) e) < room ⌝ }
+    ensures { λ r. ⌜ (r, now (out .exit)) ≡ saying (says (encodedReport n (now (fs .entry)) e)) (now (out .entry)) ⌝ }
 {
-    match wanted {
-        Wanted::Report => report::put_report(out, t, e),
-        Wanted::Cover => {
-            let bits = e.bits;
-            covers::put_cover(out, t, e.width, bits)
+    if out.len() < ROOM {
+        let mut none = [0u8; 1];
+        if out.len() < report::put_report(&mut none, n, e, fs) {
+            return Said::Refused(rules::Refusal::NoRoom, 0);
         }
     }
+    Said::Text(report::put_report(out, n, e, fs))
 }
 
-// Whether the text wanted fits in so many bytes. Where that is not plain, a first writing into one byte tells how long it is.
-fn has_room(room: usize, wanted: Wanted, t: rules::Listing, e: rules::Encoding) -> bool
+// The cover, where it fits.
+fn say_cover(t: rules::Listing, e: rules::Encoding, out: &mut [u8]) -> Said
     requires { ⌜ Whole t e ⌝ }
-    ensures { λ r. ⌜ r ≡ leb (length (textOf wanted t e)) room ⌝ }
+    ensures { λ r. ⌜ (r, now (out .exit)) ≡ saying (says (cover t (take (e .width) (e .bits)))) (now (out .entry)) ⌝ }
 {
-    if ROOM <= room {
-        return true;
+    let bits = e.bits;
+    if out.len() < ROOM {
+        let mut none = [0u8; 1];
+        if out.len() < covers::put_cover(&mut none, t, e.width, bits) {
+            return Said::Refused(rules::Refusal::NoRoom, 0);
+        }
     }
-    let mut none = [0u8; 1];
-    put_text(&mut none, wanted, t, e) <= room
+    Said::Text(covers::put_cover(out, t, e.width, bits))
 }
 
-// The text wanted, where it fits.
-fn write(wanted: Wanted, t: rules::Listing, e: rules::Encoding, out: &mut [u8]) -> Said
-    requires { ⌜ Whole t e ⌝ }
-    ensures { λ r. ⌜ (r, now (out .exit)) ≡ saying (says (textOf wanted t e)) (now (out .entry)) ⌝ }
-{
-    if has_room(out.len(), wanted, t, e) {
-        return Said::Text(put_text(out, wanted, t, e));
-    }
-    Said::Refused(rules::Refusal::NoRoom, 0)
-}
-
-// Whether a pair or a group requirement is unmet.
-fn is_ambiguous(t: rules::Listing, e: rules::Encoding) -> bool
-    requires { ⌜ Whole t e ⌝ }
-    ensures { λ r. ⌜ r ≡ leb 1 (length (unmetFrom 0 (t .head .states) (take (e .width) (e .bits)) (pairsAndGroups t))) ⌝ }
-{
-    report::is_any_unmet(t, e)
-}
-
-// Whether what is wanted is refused 9: a report never is.
-fn is_withheld(wanted: Wanted, t: rules::Listing, e: rules::Encoding) -> bool
-    requires { ⌜ Whole t e ⌝ }
-    ensures { λ r. ⌜ r ≡ withheld wanted t e ⌝ }
-{
-    match wanted {
-        Wanted::Report => false,
-        Wanted::Cover => is_ambiguous(t, e),
-    }
-}
-
-// What is said in a code.
+// What is said in a code. The pairs and the groups stand before the dichotomies: where one of them is unmet a cover is refused 9, and a report never is.
 fn say_in(wanted: Wanted, t: rules::Listing, e: rules::Encoding, out: &mut [u8]) -> Said
     requires { ⌜ Whole t e ⌝ }
     ensures { λ r. ⌜ (r, now (out .exit)) ≡ saying (replyOf wanted t) (now (out .entry)) ⌝ }
 {
-    if is_withheld(wanted, t, e) {
-        return Said::Refused(rules::Refusal::Unmet, 0);
+    let mut fs = [0u64; code_drawing::ALL_WORDS];
+    let words = code_drawing::draw_all(t, &mut fs);
+    match wanted {
+        Wanted::Report => say_report(t.head.states, e, &fs[..words], out),
+        Wanted::Cover => {
+            let first = words - 3 * t.dichotomies;
+            if report::is_any_unmet(e, &fs[..first]) {
+                return Said::Refused(rules::Refusal::Unmet, 0);
+            }
+            say_cover(t, e, out)
+        }
     }
-    write(wanted, t, e, out)
 }
 
 // What is said of a listing.

@@ -14,13 +14,11 @@ use Rattle.rules.specs.Text.{nought}
 use Rattle.rules.specs.Code.{codeOf, unmetFrom}
 use Rattle.rules.specs.Report.{codeText, countLine, stateLine, unmetLine}
 use Rattle.pen.proofs.Decimal.{decimal-length}
-use Rattle.report.specs.Report.{stateLines, unmetLines, linesOf, encodedReport}
+use Rattle.report.specs.Report.{stateLines, unmetLines, linesOf, firstOf, encodedReport}
 use Rattle.rules.specs.Requirements.{metByCode}
 use Rattle.rules.specs.declared.Requirement.{Requirement}
-use Rattle.rules.specs.declared.Listing.{Listing}
 use Rattle.rules.proofs.Unmet.{listed-met, listed-unmet}
 use Rattle.families.specs.Families.{requirementsIn}
-use Rattle.code_drawing.specs.Drawing.{allFamilies}
 use Rattle.entries.proofs.Fields.{count-fields, state-fields}
 use Rattle.report.proofs.Lines.{states-none, states-more}
 use Rattle.report.proofs.Unmet.{from-none, numbers-none, numbers-cons}
@@ -73,13 +71,13 @@ unmet-few k n bits (r ∷ rs) = go (metByCode n bits r) refl (unmet-few (suc k) 
 
 -- ---- the whole
 
-pub report-length : (t : Listing) (e : Encoding) → t .head .states ≤ most-states → length (requirementsIn (allFamilies t)) ≤ most-asked
-    → e .width ≤ most-bits → e .asked ≤ most-asked → e .unmet ≤ most-asked → e .passes < 2 ^ 64 → e .looks < 2 ^ 64 → length (encodedReport t e) ≤ 36509
+pub report-length : (n : ℕ) (fs : List ℕ) (e : Encoding) → n ≤ most-states → length (requirementsIn (firstOf fs)) ≤ most-asked
+    → e .width ≤ most-bits → e .asked ≤ most-asked → e .unmet ≤ most-asked → e .passes < 2 ^ 64 → e .looks < 2 ^ 64 → length (encodedReport n fs e) ≤ 36509
 unfolding encodedReport linesOf
-report-length t e hn hr hw ha hu hp hl =
+report-length n fs e hn hr hw ha hu hp hl =
     let bits : List ℕ = take (e .width) (e .bits) in
     let narrow : length bits ≤ most-bits = omega (arith, length-take (e .width) (e .bits)) in
     let c = count-length (e .width) (e .asked) (e .unmet) (e .passes) (e .looks) (omega arith) (omega arith) (omega arith) hp hl in
-    let s = states-length bits (t .head .states) narrow (omega arith) in
-    let l = unmets-length 0 64 bits (requirementsIn (allFamilies t)) (omega arith) in
+    let s = states-length bits n narrow (omega arith) in
+    let l = unmets-length 0 64 bits (requirementsIn (firstOf fs)) (omega arith) in
     simp length-append (omega arith)

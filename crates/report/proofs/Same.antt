@@ -6,6 +6,8 @@ use mathlib.Core.Bool.{true}
 use native.Mathlib.Omega.{arith}
 use lib.Dec.{leb}
 use lib.ListN.{length, take}
+use lib.Seq.{take-all}
+use Rattle.rules.specs.Limits.{most-rows, most-dichotomies}
 use Rattle.rules.specs.Requirements.{requirements, pairsAndGroups}
 use Rattle.rules.specs.Code.{Code, unmetFrom, unmet}
 use Rattle.rules.specs.Text.{bytes}
@@ -17,19 +19,20 @@ use Rattle.rules.proofs.Good.{AllGood}
 use Rattle.fair.specs.Fair.{fair}
 use Rattle.fair.proofs.Limits.{fair-grants}
 use Rattle.families.specs.Families.{requirementsIn}
-use Rattle.code_drawing.specs.Drawing.{allFamilies}
+use Rattle.code_drawing.specs.Drawing.{firstFamilies, allFamilies}
 use Rattle.code_drawing.proofs.Requirements.{first-are, all-are}
+use Rattle.code_drawing.proofs.Whole.{few-first, few-all}
 use Rattle.code_judging.proofs.Wide.{unmet-wide}
-use Rattle.report.specs.Report.{stateLines, unmetLines, linesOf, encodedReport, anyUnmet, Holds}
+use Rattle.report.specs.Report.{stateLines, unmetLines, linesOf, most-words, firstOf, encodedReport, anyUnmet, Holds}
 
 -- a report by its parts
 text : ℕ → ℕ → List ℕ → ℕ → ℕ → List ℕ → ℕ → ℕ → List ℕ
 text n width bits asked left lines passes looks = countLine width asked left passes looks ++ (stateLines bits n ++ (lines ++ bytes "EN\n"))
 
-encoded-text : (t : Listing) (e : Encoding)
-    → encodedReport t e ≡ text (t .head .states) (e .width) (take (e .width) (e .bits)) (e .asked) (e .unmet) (linesOf 0 (take (e .width) (e .bits)) (requirementsIn (allFamilies t))) (e .passes) (e .looks)
+encoded-text : (n : ℕ) (fs : List ℕ) (e : Encoding)
+    → encodedReport n fs e ≡ text n (e .width) (take (e .width) (e .bits)) (e .asked) (e .unmet) (linesOf 0 (take (e .width) (e .bits)) (requirementsIn (firstOf fs))) (e .passes) (e .looks)
 unfolding encodedReport text
-encoded-text t e = refl
+encoded-text n fs e = refl
 
 report-text : (t : Listing) (c : Code)
     → report t c ≡ text (t .head .states) (length (c .bits)) (c .bits) (length (requirements t)) (length (unmet t (c .bits))) (unmetLines (unmet t (c .bits))) (c .passes) (c .looks)
@@ -41,20 +44,27 @@ good-front : (n : ℕ) (xs ys : List Requirement) → AllGood n (xs ++ ys) → A
 good-front n [] ys g = tt
 good-front n (x ∷ xs) ys g = (g .0, good-front n xs ys (g .1))
 
-module _ (t : Listing) (f : fair t ≡ true) (good : AllGood (t .head .states) (requirements t)) where
+module _ (t : Listing) (f : fair t ≡ true) (good : AllGood (t .head .states) (requirements t)) (long : length (t .table) ≡ most-rows) (wide : length (t .asked) ≡ most-dichotomies) where
   few : t .head .states ≤ 64
   few = omega (arith, fair-grants t f .limits .few-states)
 
-  same-lines : (bits : List ℕ) → linesOf 0 bits (requirementsIn (allFamilies t)) ≡ unmetLines (unmet t bits)
+  -- there are no more than the report walks over
+  all-first : firstOf (allFamilies t) ≡ allFamilies t
+  all-first = take-all most-words (allFamilies t) (few-all t long wide)
+
+  first-first : firstOf (firstFamilies t) ≡ firstFamilies t
+  first-first = take-all most-words (firstFamilies t) (omega (arith, few-first t long))
+
+  same-lines : (bits : List ℕ) → linesOf 0 bits (requirementsIn (firstOf (allFamilies t))) ≡ unmetLines (unmet t bits)
   unfolding linesOf unmet
-  same-lines bits = ap (λ (rs : List Requirement). unmetLines (unmetFrom 0 64 bits rs)) (all-are t f) ∙ ap unmetLines (unmet-wide (t .head .states) few 0 bits (requirements t) good)
+  same-lines bits = ap (λ (rs : List Requirement). unmetLines (unmetFrom 0 64 bits rs)) (ap requirementsIn all-first ∙ all-are t f) ∙ ap unmetLines (unmet-wide (t .head .states) few 0 bits (requirements t) good)
 
-  pub same-report : (c : Code) (e : Encoding) → Holds t c e → encodedReport t e ≡ report t c
-  same-report c e h = encoded-text t e ∙ cc (same-lines (take (e .width) (e .bits))) ∙ sym (report-text t c)
+  pub same-report : (c : Code) (e : Encoding) → Holds t c e → encodedReport (t .head .states) (allFamilies t) e ≡ report t c
+  same-report c e h = encoded-text (t .head .states) (allFamilies t) e ∙ cc (same-lines (take (e .width) (e .bits))) ∙ sym (report-text t c)
 
-  pub same-judged : (e : Encoding) → anyUnmet t e ≡ leb 1 (length (unmetFrom 0 (t .head .states) (take (e .width) (e .bits)) (pairsAndGroups t)))
+  pub same-judged : (e : Encoding) → anyUnmet (firstFamilies t) e ≡ leb 1 (length (unmetFrom 0 (t .head .states) (take (e .width) (e .bits)) (pairsAndGroups t)))
   unfolding anyUnmet requirements
   same-judged e =
       let bits : List ℕ = take (e .width) (e .bits) in
-      ap (λ (rs : List Requirement). leb 1 (length (unmetFrom 0 64 bits rs))) (first-are t f)
+      ap (λ (rs : List Requirement). leb 1 (length (unmetFrom 0 64 bits rs))) (ap requirementsIn first-first ∙ first-are t f)
       ∙ ap (λ (l : List ℕ). leb 1 (length l)) (unmet-wide (t .head .states) few 0 bits (pairsAndGroups t) (good-front (t .head .states) (pairsAndGroups t) _ good))

@@ -1,11 +1,12 @@
--- The report as written from a listing and an encoder's answer, line by line.
+-- The report as written from an encoder's answer and the families of a listing, line by line.
 use mathlib.Core.Path.{_≡_}
 use mathlib.Core.Bool.{Bool}
 use mathlib.Core.List.{List, _++_, map}
-use Prim.Native.Nat.{ℕ}
+use Prim.Native.Nat.{ℕ, _+_, _*_}
 use lib.Dec.{leb}
 use lib.ListN.{length, take}
 use Rattle.sets.specs.Sets.{statesFrom}
+use Rattle.rules.specs.Limits.{most-states, most-rows, most-dichotomies}
 use Rattle.rules.specs.Text.{bytes}
 use Rattle.rules.specs.Requirements.{requirements}
 use Rattle.rules.specs.Code.{Code, unmet, unmetFrom}
@@ -14,7 +15,6 @@ use Rattle.rules.specs.declared.Requirement.{Requirement}
 use Rattle.rules.specs.declared.Listing.{Listing}
 use Rattle.rules.specs.declared.Encoding.{Encoding}
 use Rattle.families.specs.Families.{requirementsIn}
-use Rattle.code_drawing.specs.Drawing.{firstFamilies, allFamilies}
 
 -- a line for each of the first n states
 unfoldable pub stateLines : List ℕ → ℕ → List ℕ
@@ -28,18 +28,25 @@ unmetLines rs = joinedLines (map (λ r. unmetLine (record { 0 = r })) rs)
 unfoldable pub linesOf : ℕ → List ℕ → List Requirement → List ℕ
 linesOf k bits rs = unmetLines (unmetFrom k 64 bits rs)
 
--- the report of an answer
-unfoldable pub encodedReport : Listing → Encoding → List ℕ
-encodedReport t e =
+-- of more families than a listing can have, those that it can
+abbrev pub most-words : ℕ
+most-words = 3 * (most-states + most-rows + most-dichotomies)
+
+abbrev pub firstOf : List ℕ → List ℕ
+firstOf fs = take most-words fs
+
+-- the report of an answer on n states and on the requirements of some families
+unfoldable pub encodedReport : ℕ → List ℕ → Encoding → List ℕ
+encodedReport n fs e =
     let bits : List ℕ = take (e .width) (e .bits) in
     countLine (e .width) (e .asked) (e .unmet) (e .passes) (e .looks)
-    ++ (stateLines bits (t .head .states)
-    ++ (linesOf 0 bits (requirementsIn (allFamilies t))
+    ++ (stateLines bits n
+    ++ (linesOf 0 bits (requirementsIn (firstOf fs))
     ++ bytes "EN\n"))
 
--- no bit of the answer meets one of the pairs and the groups
-unfoldable pub anyUnmet : Listing → Encoding → Bool
-anyUnmet t e = leb 1 (length (unmetFrom 0 64 (take (e .width) (e .bits)) (requirementsIn (firstFamilies t))))
+-- no bit of the answer meets one of the requirements of some families
+unfoldable pub anyUnmet : List ℕ → Encoding → Bool
+anyUnmet fs e = leb 1 (length (unmetFrom 0 64 (take (e .width) (e .bits)) (requirementsIn (firstOf fs))))
 
 -- the answer holds the code c of the listing t: its bits and its counts
 pub record Holds (t : Listing) (c : Code) (e : Encoding) : Type 0 where

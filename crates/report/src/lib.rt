@@ -8,11 +8,9 @@ ghost use Rattle.sets.specs.Sets.{only, statesFrom};
 ghost use Rattle.rules.specs.Limits.{most-states, most-rows, most-dichotomies};
 ghost use Rattle.rules.specs.Requirements.{asks};
 ghost use Rattle.families.specs.Families.{inside, requirementsOf, requirementsIn};
-ghost use Rattle.code_drawing.specs.Drawing.{allFamilies};
 ghost use Rattle.pen.specs.Pen.{Wrote};
 ghost use Rattle.report.specs.Report.{stateLines, linesOf, encodedReport, anyUnmet};
 use rules::Encoding;
-use rules::Listing;
 use rules::RequirementNumber;
 use rules::StateNumber;
 
@@ -115,35 +113,27 @@ fn put_families(out: &mut [u8], at: usize, bits: &[u64], fs: &[u64]) -> usize
     to
 }
 
-// The lines of all that a listing asks and no bit meets.
-fn put_unmet_lines(out: &mut [u8], at: usize, t: Listing, bits: &[u64]) -> usize
-    ensures { λ r. ⌜ Wrote (now (out .entry)) at (linesOf 0 (now (bits .entry)) (requirementsIn (allFamilies t))) r (now (out .exit)) ⌝ }
-{
-    let mut fs = [0u64; code_drawing::ALL_WORDS];
-    let words = code_drawing::draw_all(t, &mut fs);
-    put_families(out, at, bits, &fs[..words])
-}
-
-// Whether a pair or a group requirement is unmet: whether the walk over them writes anything.
-pub fn is_any_unmet(t: Listing, e: Encoding) -> bool
-    ensures { λ r. ⌜ r ≡ anyUnmet t e ⌝ }
+// Whether one of the requirements of some families is unmet: whether the walk over them writes anything. Of more families than a listing can have the first
+// count.
+pub fn is_any_unmet(e: Encoding, fs: &[u64]) -> bool
+    ensures { λ r. ⌜ r ≡ anyUnmet (now (fs .entry)) e ⌝ }
 {
     let width = sets::least(e.width, rules::MOST_BITS);
+    let end = sets::least(fs.len(), code_drawing::ALL_WORDS);
     let bits = e.bits;
-    let mut fs = [0u64; code_drawing::ALL_WORDS];
-    let words = code_drawing::draw_first(t, &mut fs);
     let mut none = [0u8; 1];
-    0 < put_families(&mut none, 0, &bits[..width], &fs[..words])
+    0 < put_families(&mut none, 0, &bits[..width], &fs[..end])
 }
 
-// The report on a listing, from the buffer's start.
-pub fn put_report(out: &mut [u8], t: Listing, e: Encoding) -> usize
-    ensures { λ r. ⌜ Wrote (now (out .entry)) 0 (encodedReport t e) r (now (out .exit)) ⌝ }
+// The report on n states and on the families of a listing, from the buffer's start.
+pub fn put_report(out: &mut [u8], n: usize, e: Encoding, fs: &[u64]) -> usize
+    ensures { λ r. ⌜ Wrote (now (out .entry)) 0 (encodedReport n (now (fs .entry)) e) r (now (out .exit)) ⌝ }
 {
     let width = sets::least(e.width, rules::MOST_BITS);
+    let end = sets::least(fs.len(), code_drawing::ALL_WORDS);
     let bits = e.bits;
     let p = entries::put_count_line(out, 0, e.width, e.asked, e.unmet, e.passes, e.looks);
-    let q = put_state_lines(out, p, &bits[..width], t.head.states);
-    let r = put_unmet_lines(out, q, t, &bits[..width]);
+    let q = put_state_lines(out, p, &bits[..width], n);
+    let r = put_families(out, q, &bits[..width], &fs[..end]);
     pen::put_bytes(out, r, b"EN\n")
 }
