@@ -53,13 +53,12 @@ pub cover-parts : (t : Listing) (bits : List ℕ) (width : ℕ) {w n : ℕ}
     → length (t .table) ≡ 128
     → w ≡ min width 32
     → n ≡ min (t .rows) 128
-    → countsText (t .head .inputs + w) (w + t .head .outputs) n ++ (rowTexts (t .head) (take w bits) (take n (t .table)) ++ bytes ".e\n") ≡ cover t (take width bits)
+    → countsText (t .head .inputs + w) (w + t .head .outputs) n ++ (rowTexts (t .head) (take w bits) (rowsOf t) ++ bytes ".e\n") ≡ cover t (take width bits)
 cover-parts t bits width {w} {n} hb ht hw hn =
     let lb : length (take width bits) ≡ w = omega (arith, length-take width bits) in
     let lt : length (rowsOf t) ≡ n = omega (arith, length-take (t .rows) (t .table)) in
     let tb : take w bits ≡ take width bits = rw hw (take-most width 32 bits hb) in
-    let tt : take n (t .table) ≡ rowsOf t = rw hn (take-most (t .rows) 128 (t .table) ht) in
-    rw (tb, tt, ← lb, ← lt) (cover-text t (take width bits))
+    rw (tb, ← lb, ← lt) (cover-text t (take width bits))
 
 -- ---- within the limits, and beyond them
 

@@ -1,30 +1,21 @@
 // The cover: its counts, a line for each row, and its end. Marks are fixed byte strings.
 ghost use mathlib.Core.Path.{_≡_};
 ghost use lib.ListN.{take};
-ghost use Rattle.rules.specs.Cover.{cover};
+ghost use Rattle.rules.specs.Listing.{rowsOf};
 ghost use Rattle.pen.specs.Pen.{Wrote};
-ghost use Rattle.covers.specs.Covers.{rowTexts, countsText, bounded, coverText, Bounded};
-use rules::Head;
+ghost use Rattle.covers.specs.Covers.{rowTexts, countsText, bounded, coverText};
 use rules::Listing;
-use rules::Row;
 
-// A line for each of the first rows of a table.
-fn put_rows(
-    out: &mut [u8],
-    at: usize,
-    head: Head,
-    bits: &[u64],
-    rows: usize,
-    table: [Row; rules::MOST_ROWS],
-) -> usize
-    ensures { λ r. ⌜ Wrote (now (out .entry)) at (rowTexts head (now (bits .entry)) (take rows table)) r (now (out .exit)) ⌝ }
+// A line for each row.
+fn put_rows(out: &mut [u8], at: usize, t: Listing, bits: &[u64]) -> usize
+    ensures { λ r. ⌜ Wrote (now (out .entry)) at (rowTexts (t .head) (now (bits .entry)) (rowsOf t)) r (now (out .exit)) ⌝ }
 {
-    let n = sets::least(rows, rules::MOST_ROWS);
+    let n = sets::least(t.rows, rules::MOST_ROWS);
     let mut i: usize = 0;
     let mut to = at;
     while i < n {
-        let row = table[i];
-        to = faces::put_row(out, to, head, bits, row);
+        let row = t.table[i];
+        to = faces::put_row(out, to, t.head, bits, row);
         i += 1;
     }
     to
@@ -42,20 +33,6 @@ fn put_counts(out: &mut [u8], at: usize, inputs: usize, outputs: usize, rows: us
     pen::put_field(out, t, rows as u64, 10)
 }
 
-// The cover of a listing within the limits, with the first `width` bits of a code, from the buffer's start.
-fn put_bounded(out: &mut [u8], t: Listing, width: usize, bits: [u64; rules::MOST_BITS]) -> usize
-    requires { ⌜ Bounded (t .head) ⌝ }
-    ensures { λ r. ⌜ Wrote (now (out .entry)) 0 (cover t (take width bits)) r (now (out .exit)) ⌝ }
-{
-    let head = t.head;
-    let table = t.table;
-    let w = sets::least(width, rules::MOST_BITS);
-    let n = sets::least(t.rows, rules::MOST_ROWS);
-    let p = put_counts(out, 0, head.inputs + w, w + head.outputs, n);
-    let q = put_rows(out, p, head, &bits[..w], n, table);
-    pen::put_bytes(out, q, b".e\n")
-}
-
 // Whether so many inputs and outputs are within 01's limits.
 fn is_bounded(inputs: usize, outputs: usize) -> bool
     ensures { λ r. ⌜ r ≡ bounded inputs outputs ⌝ }
@@ -66,12 +43,17 @@ fn is_bounded(inputs: usize, outputs: usize) -> bool
     outputs <= rules::MOST_OUTPUTS
 }
 
-// The cover of any listing; of one with more inputs or outputs than 01 allows, as no reader gives, no text.
+// The cover of any listing, with the first `width` bits of a code, from the buffer's start; of a listing with more inputs or outputs than 01 allows, as no
+// reader gives, no text.
 pub fn put_cover(out: &mut [u8], t: Listing, width: usize, bits: [u64; rules::MOST_BITS]) -> usize
     ensures { λ r. ⌜ Wrote (now (out .entry)) 0 (coverText t (take width bits)) r (now (out .exit)) ⌝ }
 {
-    if is_bounded(t.head.inputs, t.head.outputs) {
-        return put_bounded(out, t, width, bits);
+    if !is_bounded(t.head.inputs, t.head.outputs) {
+        return 0;
     }
-    0
+    let w = sets::least(width, rules::MOST_BITS);
+    let n = sets::least(t.rows, rules::MOST_ROWS);
+    let p = put_counts(out, 0, t.head.inputs + w, w + t.head.outputs, n);
+    let q = put_rows(out, p, t, &bits[..w]);
+    pen::put_bytes(out, q, b".e\n")
 }

@@ -4,7 +4,6 @@ ghost use Prim.Native.Nat.{_<_};
 ghost use lib.ListN.{length, take};
 ghost use Rattle.rules.specs.Cover.{cover};
 ghost use Rattle.rules.specs.Answers.{says};
-ghost use Rattle.rules.proofs.Sound.{Sound};
 ghost use Rattle.report.specs.Report.{encodedReport};
 ghost use Rattle.replies.specs.Saying.{room, saying, Whole, replyOf, replyTo};
 
@@ -71,28 +70,21 @@ fn say_in(wanted: Wanted, t: rules::Listing, e: rules::Encoding, out: &mut [u8])
     }
 }
 
-// What is said of a listing.
-fn say_of(wanted: Wanted, t: rules::Listing, out: &mut [u8]) -> Said
-    requires { ⌜ Sound t ⌝ }
-    ensures { λ r. ⌜ (r, now (out .exit)) ≡ saying (replyOf wanted t) (now (out .entry)) ⌝ }
-{
-    let e = codes::encode(t);
-    let verdict = e.verdict;
-    match verdict {
-        rules::Verdict::Refused(r, line) => Said::Refused(r, line),
-        rules::Verdict::Accepted => say_in(wanted, t, e, out),
-    }
-}
-
-// What is said of any bytes.
+// What is said of any bytes. The listing stays where it was read, and is handed on from there.
 pub fn say(wanted: Wanted, listing: &[u8], out: &mut [u8]) -> Said
     ensures { λ r. ⌜ (r, now (out .exit)) ≡ saying (replyTo wanted (now (listing .entry))) (now (out .entry)) ⌝ }
 {
     let read = listing::read_listing(listing);
-    let t = read.listing;
     let verdict = read.verdict;
     match verdict {
         rules::Verdict::Refused(r, line) => Said::Refused(r, line),
-        rules::Verdict::Accepted => say_of(wanted, t, out),
+        rules::Verdict::Accepted => {
+            let e = codes::encode(read.listing);
+            let coded = e.verdict;
+            match coded {
+                rules::Verdict::Refused(r, line) => Said::Refused(r, line),
+                rules::Verdict::Accepted => say_in(wanted, read.listing, e, out),
+            }
+        }
     }
 }
