@@ -1,25 +1,9 @@
 // The cover: its counts, a line for each row, and its end. Marks are fixed byte strings.
 ghost use mathlib.Core.Path.{_≡_};
 ghost use lib.ListN.{take};
-ghost use Rattle.rules.specs.Listing.{rowsOf};
 ghost use Rattle.pen.specs.Pen.{Wrote};
-ghost use Rattle.covers.specs.Covers.{rowTexts, countsText, bounded, coverText};
+ghost use Rattle.covers.specs.Covers.{countsText, bounded, coverText};
 use rules::Listing;
-
-// A line for each row.
-fn put_rows(out: &mut [u8], at: usize, t: Listing, bits: &[u64]) -> usize
-    ensures { λ r. ⌜ Wrote (now (out .entry)) at (rowTexts (t .head) (now (bits .entry)) (rowsOf t)) r (now (out .exit)) ⌝ }
-{
-    let n = sets::least(t.rows, rules::MOST_ROWS);
-    let mut i: usize = 0;
-    let mut to = at;
-    while i < n {
-        let row = t.table[i];
-        to = faces::put_row(out, to, t.head, bits, row);
-        i += 1;
-    }
-    to
-}
 
 // `.i`, `.o` and `.p`
 fn put_counts(out: &mut [u8], at: usize, inputs: usize, outputs: usize, rows: usize) -> usize
@@ -53,7 +37,12 @@ pub fn put_cover(out: &mut [u8], t: Listing, width: usize, bits: [u64; rules::MO
     }
     let w = sets::least(width, rules::MOST_BITS);
     let n = sets::least(t.rows, rules::MOST_ROWS);
-    let p = put_counts(out, 0, t.head.inputs + w, w + t.head.outputs, n);
-    let q = put_rows(out, p, t, &bits[..w]);
-    pen::put_bytes(out, q, b".e\n")
+    let mut to = put_counts(out, 0, t.head.inputs + w, w + t.head.outputs, n);
+    let mut i: usize = 0;
+    while i < n {
+        let row = t.table[i];
+        to = faces::put_row(out, to, t.head, &bits[..w], row);
+        i += 1;
+    }
+    pen::put_bytes(out, to, b".e\n")
 }
