@@ -19,7 +19,7 @@ use Rattle.rules.specs.Requirements.{metByCode}
 use Rattle.rules.specs.declared.Requirement.{Requirement}
 use Rattle.rules.proofs.Unmet.{listed-met, listed-unmet}
 use Rattle.families.specs.Families.{requirementsIn}
-use Rattle.entries.proofs.Fields.{count-fields, state-fields}
+use Rattle.report.proofs.Fields.{count-fields, state-fields}
 use Rattle.report.proofs.Lines.{states-none, states-more}
 use Rattle.report.proofs.Unmet.{from-none, numbers-none, numbers-cons}
 

@@ -1,4 +1,6 @@
 // The report: its counts, a line for each state, a line for each requirement that no bit meets, and its end.
+mod entries;
+
 ghost use mathlib.Core.Path.{_≡_};
 ghost use mathlib.Core.List.{[], _∷_, map};
 ghost use Prim.Native.Nat.{_+_, _*_, _^_, _≤_, _<_};

@@ -27,8 +27,8 @@ use Rattle.shares.proofs.Ready.{Ready}
 use Rattle.shares.proofs.Shows.{Shows, shows-filled, shows-moved}
 use Rattle.trial.specs.declared.Trial.{Trial}
 use Rattle.trial.specs.Record.{none, shown, askedOf, nextOf}
-use Rattle.calls.proofs.Startable.{Startable}
-use Rattle.calls.proofs.Movable.{Movable}
+use Rattle.trial.proofs.Startable.{Startable}
+use Rattle.trial.proofs.Movable.{Movable}
 use Rattle.trial.proofs.Listed.{paired-length, listed}
 
 pub record Fair (t : Trial) : Type 0 where

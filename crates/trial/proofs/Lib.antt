@@ -1,3 +1,6 @@
+pub mod Pairs
+pub mod Startable
+pub mod Movable
 pub mod Stored
 pub mod Made
 pub mod Levels
@@ -5,4 +8,4 @@ pub mod Outside
 pub mod Listed
 pub mod Fair
 pub mod Shown
-pub mod Calls
+pub mod AnyCalls

@@ -17,9 +17,9 @@ use Rattle.shares.specs.Moves.{filled, moved, looked}
 use Rattle.trial.specs.declared.Trial.{Trial}
 use Rattle.trial.specs.declared.Answer.{Answer}
 use Rattle.trial.specs.Record.{taken, turnedDown, stored, none, shown, startOf, askedOf, nextOf, moveOf, gainOf}
-use Rattle.calls.specs.Movable.{movable}
-use Rattle.calls.proofs.Startable.{startable-has}
-use Rattle.calls.proofs.Movable.{movable-has}
+use Rattle.trial.specs.Movable.{movable}
+use Rattle.trial.proofs.Startable.{startable-has}
+use Rattle.trial.proofs.Movable.{movable-has}
 
 -- a record that nothing has moved in, with the families and the table that code made
 abbrev begun : ℕ → ℕ → ℕ → List ℕ → List ℕ → Trial

@@ -21,9 +21,9 @@ use Rattle.shares.proofs.Looks.{looked-looks}
 use Rattle.trial.specs.declared.Trial.{Trial}
 use Rattle.trial.specs.declared.Answer.{Answer}
 use Rattle.trial.specs.Record.{taken, turnedDown, none, shown, startOf, askedOf, nextOf, moveOf, gainOf}
-use Rattle.calls.specs.Movable.{movable}
-use Rattle.calls.proofs.Startable.{startable-has}
-use Rattle.calls.proofs.Movable.{Movable, movable-has, within-limits}
+use Rattle.trial.specs.Movable.{movable}
+use Rattle.trial.proofs.Startable.{startable-has}
+use Rattle.trial.proofs.Movable.{Movable, movable-has, within-limits}
 use Rattle.trial.proofs.Levels.{same-less}
 use Rattle.trial.proofs.Made.{gain-none, gain-read}
 use Rattle.trial.proofs.Outside.{gain-out}

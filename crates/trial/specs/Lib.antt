@@ -1,1 +1,2 @@
+pub mod Movable
 pub mod Record

@@ -17,7 +17,7 @@ use Rattle.rules.specs.declared.Refusal.the-variants.{BadCall}
 use Rattle.shares.specs.Table.{level}
 use Rattle.families.specs.Families.{requirementsIn}
 use Rattle.shares.specs.Moves.{filled, moved, looked}
-use Rattle.calls.specs.Movable.{movable}
+use Rattle.trial.specs.Movable.{movable}
 use Rattle.trial.specs.declared.Trial.{Trial}
 use Rattle.trial.specs.declared.Answer.{Answer}
 

@@ -1,4 +1,6 @@
 // The trial record, for single moves, by value.
+mod calls;
+
 ghost use mathlib.Core.Path.{_≡_};
 ghost use Prim.Native.Nat.{_<_, _≤_};
 ghost use lib.ListN.{replicate};

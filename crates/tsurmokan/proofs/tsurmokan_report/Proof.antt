@@ -1,7 +1,7 @@
 -- `tsurmokan::tsurmokan_report` meets its contract.
 use lib.IntN.{ℤ}
 use Rattle.replies.specs.Saying.{replyTo}
-use Rattle.numbers.proofs.Numbers.{back}
+use Rattle.tsurmokan.proofs.Said.{back}
 use mathlib.Core.Path.{ap, _∙_}
 use borrow.Author.Needs.{needs}
 use Rattle.tsurmokan.proofs.tsurmokan_report.Statement.{statement}

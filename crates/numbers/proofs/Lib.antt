@@ -1,2 +1,0 @@
-pub mod Minus
-pub mod Numbers
