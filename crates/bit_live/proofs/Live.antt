@@ -12,9 +12,9 @@ use Rattle.sets.specs.Sets.{flip as turn, size, statesFrom}
 use Rattle.rules.specs.Looks.{moveLooks}
 use Rattle.rules.specs.declared.Requirement.{Requirement}
 use Rattle.rules.proofs.Good.{AllGood}
-use Rattle.shares.specs.Table.{shared}
-use Rattle.shares.specs.Moves.{filled, moved, looked}
-use Rattle.shares.proofs.Looks.{looked-looks}
+use Rattle.move_table.specs.Table.{shared}
+use Rattle.move_table.specs.Moves.{filled, moved, looked}
+use Rattle.move_table.proofs.Looks.{looked-looks}
 use Rattle.families.specs.Families.{requirementsIn}
 use Rattle.families.proofs.Walk.{Words}
 use Rattle.move_families.specs.Swayed.{swayedAll, looksAll, doubled}

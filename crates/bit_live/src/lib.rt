@@ -7,7 +7,7 @@ ghost use Prim.Native.Nat.{_%_, _^_};
 ghost use lib.ListN.{length};
 ghost use Rattle.sets.specs.Sets.{flip};
 ghost use Rattle.rules.specs.OneBit.{start};
-ghost use Rattle.shares.specs.Moves.{filled, moved, looked};
+ghost use Rattle.move_table.specs.Moves.{filled, moved, looked};
 ghost use Rattle.families.specs.Families.{requirementsOf, requirementsIn};
 ghost use Rattle.move_pairs.specs.Pairs.{livePairs};
 ghost use Rattle.bit_live.specs.Live.{liveIn};
@@ -26,7 +26,7 @@ pub fn fill_live(n: usize, bits: &[u64], fs: &[u64], b: u64, t: &mut [u32])
 pub fn move_live(n: usize, bits: &[u64], fs: &[u64], b: u64, s: usize, t: &mut [u32]) -> usize
     ensures { λ r. ⌜ (r ≡ looked (liveIn n (now (bits .entry)) (now (fs .entry))) b (flip b s) s % 2 ^ 64) × (now (t .exit) ≡ moved (liveIn n (now (bits .entry)) (now (fs .entry))) b (flip b s) s (now (t .entry))) ⌝ }
 {
-    let v = shares::level_at(t, s);
+    let v = move_table::level_at(t, s);
     let one = move_pairs::sway_pairs(n, bits, b, s, t);
     let other = move_families::sway_families(fs, b, s, t);
     move_families::double_own(t, s, v);

@@ -6,7 +6,7 @@ use native.Mathlib.Omega.{arith}
 use Rattle.rules.specs.OneBit.{Bit, newBit}
 use Rattle.rules.specs.Code.{Code, build, unmetBy}
 use Rattle.rules.specs.declared.Requirement.{Requirement}
-use Rattle.shares.proofs.Ready.{Ready, ready-left}
+use Rattle.move_table.proofs.Ready.{Ready, ready-left}
 use Rattle.bit_next.proofs.NextBit.{new-bit-few}
 
 pub record FewIn (k : ℕ) (c : Code) : Type 0 where

@@ -8,9 +8,9 @@ use lib.ListN.{length, take}
 use Rattle.rules.specs.OneBit.{start, passes, newBit}
 use Rattle.rules.specs.Code.{unmetBy}
 use Rattle.rules.specs.declared.Requirement.{Requirement}
-use Rattle.shares.proofs.Ready.{Ready}
-use Rattle.choice.specs.Pass.{builtBy}
-use Rattle.choice.proofs.AllPasses.{Same, Few, built-same, bit-few}
+use Rattle.move_table.proofs.Ready.{Ready}
+use Rattle.bit_choice.specs.Pass.{builtBy}
+use Rattle.bit_choice.proofs.AllPasses.{Same, Few, built-same, bit-few}
 use Rattle.bit_live.specs.Live.{liveIn}
 use Rattle.bit_live.proofs.Next.{Within, live-left}
 use Rattle.bit_next.specs.NextBit.{nextBy, AddedBit}

@@ -5,8 +5,8 @@ use Prim.Native.Nat.{ℕ, min}
 use lib.ListN.{length}
 use Rattle.rules.specs.OneBit.{Bit, start, complemented}
 use Rattle.rules.specs.declared.Requirement.{Requirement}
-use Rattle.choice.specs.Pass.{builtBy}
-use Rattle.choice.specs.declared.Built.{Built}
+use Rattle.bit_choice.specs.Pass.{builtBy}
+use Rattle.bit_choice.specs.declared.Built.{Built}
 use Rattle.bit_live.specs.Live.{liveIn}
 use Rattle.bit_live.specs.Left.{leftFamilies, siftedFamilies}
 

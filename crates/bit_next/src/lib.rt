@@ -15,7 +15,7 @@ pub fn add_bit(n: usize, bits: &[u64], fs: &mut [u64]) -> Added
 {
     let start = bit_live::start_live(n, bits, fs);
     let built = bit_passes::build_bit(n, bits, fs, start);
-    let b = choice::complement(n, built.bit);
+    let b = bit_choice::complement(n, built.bit);
     let left = bit_live::sift_families(fs, b);
     Added {
         bit: b,

@@ -10,14 +10,14 @@ use Rattle.sets.specs.Sets.{flip, statesFrom}
 use Rattle.rules.specs.Requirements.{pairs}
 use Rattle.rules.specs.declared.Requirement.{Requirement}
 use Rattle.rules.proofs.Unmet.{unmetIn}
-use Rattle.shares.specs.Table.{level}
-use Rattle.shares.specs.Moves.{moved, looked}
-use Rattle.choice.specs.Pass.{highest, reached, bestOf, going, goOn, passed, passesBy, tallied, builtBy}
-use Rattle.choice.proofs.Tally.{same-built, tally-more, tally-last, tally-none}
-use Rattle.choice.proofs.OneMove.{chosen-lt, go-on}
-use Rattle.choice.specs.declared.Passed.{Passed}
-use Rattle.choice.specs.declared.Built.{Built}
-use Rattle.choice.specs.declared.Way.{Way}
+use Rattle.move_table.specs.Table.{level}
+use Rattle.move_table.specs.Moves.{moved, looked}
+use Rattle.bit_choice.specs.Pass.{highest, reached, bestOf, going, goOn, passed, passesBy, tallied, builtBy}
+use Rattle.bit_choice.proofs.Tally.{same-built, tally-more, tally-last, tally-none}
+use Rattle.bit_choice.proofs.OneMove.{chosen-lt, go-on}
+use Rattle.bit_choice.specs.declared.Passed.{Passed}
+use Rattle.bit_choice.specs.declared.Built.{Built}
+use Rattle.bit_choice.specs.declared.Way.{Way}
 use Rattle.families.specs.Families.{requirementsOf, requirementsIn}
 use Rattle.move_pairs.specs.Pairs.{livePairs}
 use Rattle.bit_live.specs.Live.{liveIn}

@@ -4,8 +4,8 @@ use mathlib.Core.Bool.{cond}
 use mathlib.Core.List.{List}
 use Prim.Native.Nat.{ℕ, _+_, _^_, _<_}
 use Rattle.rules.specs.declared.Requirement.{Requirement}
-use Rattle.choice.specs.Pass.{passesBy, tallied}
-use Rattle.choice.specs.declared.Built.{Built}
+use Rattle.bit_choice.specs.Pass.{passesBy, tallied}
+use Rattle.bit_choice.specs.declared.Built.{Built}
 use Rattle.bit_passes.specs.declared.Run.{Run}
 
 -- what is built where at most m passes more follow

@@ -1,14 +1,14 @@
 // One bit, by gain tables: a move touches only the live requirements that are near, and their members alone.
-use choice::Built;
-use choice::Passed;
-use choice::Way;
-use choice::best_of;
-use choice::choose;
-use choice::reach;
+use bit_choice::Built;
+use bit_choice::Passed;
+use bit_choice::Way;
+use bit_choice::best_of;
+use bit_choice::choose;
+use bit_choice::reach;
 ghost use mathlib.Core.Path.{_≡_};
 ghost use Prim.Native.Nat.{_+_, _≤_};
 ghost use lib.ListN.{length};
-ghost use Rattle.choice.specs.Pass.{going, goOn, passed, passesBy, tallied, builtBy};
+ghost use Rattle.bit_choice.specs.Pass.{going, goOn, passed, passesBy, tallied, builtBy};
 ghost use Rattle.bit_live.specs.Live.{liveIn};
 ghost use Rattle.bit_passes.specs.Runs.{Ran};
 
@@ -29,7 +29,7 @@ fn go_on(n: usize, bits: &[u64], fs: &[u64], w: Way, t: &mut [u32]) -> Way
     let free = w.free;
     let s = choose(n, free, t);
     let a = sets::flipped(b, s);
-    let level = reach(w.level, shares::level_at(t, s));
+    let level = reach(w.level, move_table::level_at(t, s));
     let looks = bit_live::move_live(n, bits, fs, b, s, t);
     let best = w.best;
     Way {
@@ -45,17 +45,17 @@ fn run_pass(n: usize, bits: &[u64], fs: &[u64], b: u64) -> Passed
     requires { ⌜ n ≤ 64 ⌝ }
     ensures { λ r. ⌜ r ≡ passed n (liveIn n (now (bits .entry)) (now (fs .entry))) b ⌝ }
 {
-    let mut t = [shares::LEVEL; 64];
+    let mut t = [move_table::LEVEL; 64];
     bit_live::fill_live(n, bits, fs, b, &mut t);
     let none = Passed {
         bit: b,
-        level: shares::LEVEL,
+        level: move_table::LEVEL,
         looks: 0,
     };
     let mut w = Way {
         bit: b,
         free: sets::everyone_of(n),
-        level: shares::LEVEL,
+        level: move_table::LEVEL,
         best: none,
     };
     let mut i: usize = 0;
@@ -82,7 +82,7 @@ fn run_some(n: usize, bits: &[u64], fs: &[u64], k: usize, w: Run) -> Run
         let p = run_pass(n, bits, fs, b);
         passes = std::num::wrapping_add_u64(passes, 1);
         looks = std::num::wrapping_add_u64(looks, p.looks);
-        if p.level <= shares::LEVEL {
+        if p.level <= move_table::LEVEL {
             return Run {
                 bit: b,
                 passes,

@@ -9,7 +9,7 @@ use lib.ListN.{length, getD, take, drop, length-append}
 use Rattle.sets.specs.Sets.{size, everyone}
 use Rattle.rules.specs.Listing.{noRow}
 use Rattle.rules.specs.declared.Row.{Row}
-use Rattle.fair.proofs.Tables.{entry, no-entry}
+use Rattle.code_fair.proofs.Tables.{entry, no-entry}
 use Rattle.families.specs.Families.{without}
 use Rattle.code_drawing.specs.Drawing.{family, standsIn, withGroup, withGroups}
 

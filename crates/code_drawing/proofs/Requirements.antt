@@ -22,8 +22,8 @@ use Rattle.rules.specs.declared.Listing.{Listing}
 use Rattle.rules.proofs.Asked.{groups-step}
 use Rattle.rules.proofs.Good.{apart-and}
 use Rattle.rules.proofs.SoundLines.{SoundBlocks}
-use Rattle.fair.specs.Fair.{fair}
-use Rattle.fair.proofs.Limits.{fair-grants}
+use Rattle.code_fair.specs.Fair.{fair}
+use Rattle.code_fair.proofs.Limits.{fair-grants}
 use Rattle.families.specs.Families.{without, requirementsIn}
 use Rattle.families.proofs.Parts.{has-rest}
 use Rattle.families.proofs.Drawn.{group-drawn, dichotomy-drawn}

@@ -14,8 +14,8 @@ use Rattle.rules.specs.declared.Row.{Row}
 use Rattle.rules.specs.declared.Requirement.{Requirement}
 use Rattle.rules.specs.declared.Listing.{Listing}
 use Rattle.rules.proofs.SoundLines.{SoundBlocks}
-use Rattle.fair.specs.Fair.{fair}
-use Rattle.fair.proofs.Limits.{fair-grants}
+use Rattle.code_fair.specs.Fair.{fair}
+use Rattle.code_fair.proofs.Limits.{fair-grants}
 use Rattle.families.specs.Families.{without}
 use Rattle.families.proofs.Parts.{rest-lt}
 use Rattle.code_drawing.specs.Drawing.{family, standsIn, withGroup, withGroups, dichotomyWords, groupFamilies, familiesOf}

@@ -8,7 +8,7 @@ use lib.ListN.{length, getD, take, drop}
 use Rattle.sets.specs.Sets.{only, everyone}
 use Rattle.rules.specs.Listing.{noRequirement}
 use Rattle.rules.specs.declared.Requirement.{Requirement}
-use Rattle.fair.proofs.Tables.{entry, no-entry}
+use Rattle.code_fair.proofs.Tables.{entry, no-entry}
 use Rattle.families.specs.Families.{without}
 use Rattle.code_drawing.specs.Drawing.{family, dichotomyWords, pairWords}
 

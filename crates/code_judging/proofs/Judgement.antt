@@ -15,10 +15,10 @@ use Rattle.rules.specs.declared.Requirement.{Requirement}
 use Rattle.rules.specs.declared.RequirementNumber.{RequirementNumber}
 use Rattle.rules.specs.declared.Listing.{Listing}
 use Rattle.rules.proofs.Good.{AllGood}
-use Rattle.fair.specs.Fair.{fair}
-use Rattle.fair.proofs.Limits.{fair-grants}
+use Rattle.code_fair.specs.Fair.{fair}
+use Rattle.code_fair.proofs.Limits.{fair-grants}
 use Rattle.families.specs.Families.{requirementsIn}
-use Rattle.encoding.specs.Encode.{encodedAs}
+use Rattle.code_encoding.specs.Encode.{encodedAs}
 use Rattle.code_drawing.specs.Drawing.{allFamilies}
 use Rattle.code_drawing.proofs.Requirements.{all-are}
 use Rattle.code_judging.specs.Judging.{metAt, judged}

@@ -13,10 +13,10 @@ use Rattle.sets.specs.Sets.{flip as turn}
 use Rattle.rules.specs.Requirements.{metCount}
 use Rattle.rules.specs.declared.Requirement.{Requirement}
 use Rattle.rules.proofs.Good.{AllGood}
-use Rattle.shares.specs.Table.{less, raised, weighed, shared}
-use Rattle.shares.proofs.Shares.{isMet, makesOf, breaksOf}
-use Rattle.shares.specs.Moves.{filled}
-use Rattle.shares.proofs.Shows.{length-weighed, length-filled}
+use Rattle.move_table.specs.Table.{less, raised, weighed, shared}
+use Rattle.move_table.proofs.Shares.{isMet, makesOf, breaksOf}
+use Rattle.move_table.specs.Moves.{filled}
+use Rattle.move_table.proofs.Shows.{length-weighed, length-filled}
 use Rattle.families.specs.Families.{without, requirementsOf, requirementsIn}
 use Rattle.move_halves.specs.Halves.{side, back, ones, zeros, worth, halved}
 use Rattle.move_halves.proofs.Modulo.{cancel, sums, both}

@@ -13,12 +13,12 @@ use Rattle.sets.proofs.Members.{has-lt, flip-lt}
 use Rattle.rules.specs.Requirements.{metCount}
 use Rattle.rules.specs.declared.Requirement.{Requirement}
 use Rattle.rules.proofs.Good.{Good, AllGood}
-use Rattle.shares.specs.Table.{less, raised, weighed, shared, unshared, lookMask, stepped}
-use Rattle.shares.proofs.Raising.{length-raised}
-use Rattle.shares.proofs.Shares.{isMet, makesOf, breaksOf, share-has, quiet-shares}
-use Rattle.shares.specs.Moves.{moved}
-use Rattle.shares.proofs.Looks.{look-mask}
-use Rattle.shares.proofs.Shows.{raised-at, length-weighed, length-stepped}
+use Rattle.move_table.specs.Table.{less, raised, weighed, shared, unshared, lookMask, stepped}
+use Rattle.move_table.proofs.Raising.{length-raised}
+use Rattle.move_table.proofs.Shares.{isMet, makesOf, breaksOf, share-has, quiet-shares}
+use Rattle.move_table.specs.Moves.{moved}
+use Rattle.move_table.proofs.Looks.{look-mask}
+use Rattle.move_table.proofs.Shows.{raised-at, length-weighed, length-stepped}
 use Rattle.move_halves.proofs.Modulo.{plus, cancel, sums, both}
 use Rattle.move_halves.proofs.Levels.{raised-level}
 

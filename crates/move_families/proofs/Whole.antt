@@ -16,11 +16,11 @@ use Rattle.rules.specs.Requirements.{metCount}
 use Rattle.rules.specs.Looks.{looksAt, moveLooks}
 use Rattle.rules.specs.declared.Requirement.{Requirement}
 use Rattle.rules.proofs.Good.{AllGood}
-use Rattle.shares.specs.Moves.{moved, looked}
-use Rattle.shares.proofs.Looks.{looked-looks}
-use Rattle.shares.proofs.Shows.{length-moved}
-use Rattle.shares.specs.Table.{raised}
-use Rattle.shares.proofs.Shares.{isMet}
+use Rattle.move_table.specs.Moves.{moved, looked}
+use Rattle.move_table.proofs.Looks.{looked-looks}
+use Rattle.move_table.proofs.Shows.{length-moved}
+use Rattle.move_table.specs.Table.{raised}
+use Rattle.move_table.proofs.Shares.{isMet}
 use Rattle.families.specs.Families.{without, inside, single, joined, requirementsOf, requirementsIn}
 use Rattle.families.proofs.Walk.{Words, words-three}
 use Rattle.move_halves.specs.Halves.{signed, halvedBy, halved, sideBut, backBut, swayedIn, swayedOut, swayed}

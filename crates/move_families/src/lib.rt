@@ -2,7 +2,7 @@
 ghost use mathlib.Core.Path.{_≡_};
 ghost use Prim.Native.Nat.{_+_, _-_, _*_, _%_, _^_};
 ghost use Rattle.sets.specs.Sets.{flip};
-ghost use Rattle.shares.specs.Moves.{filled, moved, looked};
+ghost use Rattle.move_table.specs.Moves.{filled, moved, looked};
 ghost use Rattle.families.specs.Families.{requirementsIn};
 ghost use Rattle.move_families.specs.Swayed.{swayedAll, looksAll, doubled};
 ghost use Rattle.move_families.specs.Filled.{familyFilled};
@@ -81,7 +81,7 @@ pub fn sway_families(fs: &[u64], b: u64, s: usize, t: &mut [u32]) -> usize
 pub fn move_families(fs: &[u64], b: u64, s: usize, t: &mut [u32]) -> usize
     ensures { λ r. ⌜ (r ≡ looked (requirementsIn (now (fs .entry))) b (flip b s) s % 2 ^ 64) × (now (t .exit) ≡ moved (requirementsIn (now (fs .entry))) b (flip b s) s (now (t .entry))) ⌝ }
 {
-    let v = shares::level_at(t, s);
+    let v = move_table::level_at(t, s);
     let looks = sway_families(fs, b, s, t);
     double_own(t, s, v);
     looks

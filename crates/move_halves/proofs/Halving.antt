@@ -9,7 +9,7 @@ use lib.Dec.{eqb, leb}
 use borrow.Author.Tests.{eq-eqb, ne-eqb, leb-true, leb-false}
 use Rattle.sets.specs.Sets.{size, sizeIn}
 use Rattle.sets.proofs.SizeMembers.{some-member, member-size}
-use Rattle.shares.specs.Table.{raised}
+use Rattle.move_table.specs.Table.{raised}
 use Rattle.move_halves.specs.Halves.{signed, halvedBy, halved}
 
 empty : size 0 ≡ 0

@@ -14,9 +14,9 @@ use borrow.Author.Tests.{eq-eqb, ne-eqb}
 use Rattle.sets.specs.Sets.{has, only, flip, size}
 use Rattle.sets.proofs.Members.{has-lt, has-and, has-none, has-only, has-other, same-mask}
 use Rattle.sets.proofs.Size.{size-flip, size-none}
-use Rattle.shares.specs.Table.{raised}
-use Rattle.shares.proofs.Raising.{length-raised}
-use Rattle.shares.proofs.Shows.{raised-at}
+use Rattle.move_table.specs.Table.{raised}
+use Rattle.move_table.proofs.Raising.{length-raised}
+use Rattle.move_table.proofs.Shows.{raised-at}
 use Rattle.move_halves.specs.Halves.{heldBy, held, signed, halvedBy, halved}
 
 -- by at a member, and nothing elsewhere

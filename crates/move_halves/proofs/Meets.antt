@@ -18,7 +18,7 @@ use Rattle.rules.specs.Requirements.{metCount}
 use Rattle.rules.specs.OneBit.{gain}
 use Rattle.rules.proofs.Meeting.{oneWay, otherWay, met-counts}
 use Rattle.rules.proofs.Shares.{sumOfShares, gain-shares}
-use Rattle.shares.proofs.Shares.{isMet}
+use Rattle.move_table.proofs.Shares.{isMet}
 use Rattle.families.specs.Families.{without, inside, single, joined, requirementsOf}
 use Rattle.move_halves.specs.Halves.{side, back, ones, zeros, worth, heldBy, held}
 use Rattle.families.proofs.Parts.{part-lt, rest-lt, has-rest}

@@ -14,7 +14,7 @@ use Rattle.sets.proofs.Size.{size-total}
 use Rattle.rules.specs.Requirements.{metCount}
 use Rattle.rules.specs.Looks.{looksAt, moveLooks}
 use Rattle.rules.specs.declared.Requirement.{Requirement}
-use Rattle.shares.proofs.Shares.{isMet}
+use Rattle.move_table.proofs.Shares.{isMet}
 use Rattle.families.specs.Families.{without, inside}
 use Rattle.families.proofs.Parts.{part-lt, rest-lt, has-rest}
 use Rattle.move_halves.specs.Halves.{heldBy}

@@ -5,7 +5,7 @@ use Prim.Native.Nat.{ℕ, zero, suc, _+_, _-_, _%_, _^_}
 use lib.Bits.{bitAnd, bitOr, bitXor}
 use lib.Dec.{eqb, leb}
 use Rattle.sets.specs.Sets.{has, only, size}
-use Rattle.shares.specs.Table.{raised}
+use Rattle.move_table.specs.Table.{raised}
 use Rattle.families.specs.Families.{without}
 
 -- half 1: of the members in common those that must change for first block 0 and second block 1; half 0: the others

@@ -47,11 +47,11 @@ pub fn put_half(on: bool, w: u32, all: u64, side: u64, right: u64, rest: u64, t:
     ensures { λ r. ⌜ now (t .exit) ≡ halved on w all side right rest (now (t .entry)) ⌝ }
 {
     if side == 0 {
-        shares::raise(t, all, signed_of(!on, w));
-        shares::raise(t, right, signed_of(!on, 1));
-        shares::raise(t, rest, signed_of(on, 1));
+        move_table::raise(t, all, signed_of(!on, w));
+        move_table::raise(t, right, signed_of(!on, 1));
+        move_table::raise(t, rest, signed_of(on, 1));
     } else if sets::few(side) {
-        shares::raise(t, side, signed_of(on, w));
+        move_table::raise(t, side, signed_of(on, w));
     }
 }
 

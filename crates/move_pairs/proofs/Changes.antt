@@ -17,8 +17,8 @@ use Rattle.sets.proofs.Size.{size-total, none-size}
 use Rattle.sets.proofs.SizeMembers.{size-few}
 use Rattle.rules.specs.Requirements.{metCount}
 use Rattle.rules.specs.Looks.{moveLooks}
-use Rattle.shares.specs.Table.{raised}
-use Rattle.shares.proofs.Raising.{length-raised}
+use Rattle.move_table.specs.Table.{raised}
+use Rattle.move_table.proofs.Raising.{length-raised}
 use Rattle.move_halves.specs.Halves.{ones, zeros}
 use Rattle.move_halves.proofs.Modulo.{plus, cancel, sums, both}
 use Rattle.move_halves.proofs.Levels.{at-one, at-none, raised-level}

@@ -19,8 +19,8 @@ use Rattle.sets.proofs.Size.{size-total, none-size}
 use Rattle.sets.proofs.SizeMembers.{size-few}
 use Rattle.rules.specs.Requirements.{metCount}
 use Rattle.rules.specs.declared.Requirement.{Requirement}
-use Rattle.shares.specs.Moves.{filled}
-use Rattle.shares.proofs.Shows.{length-filled}
+use Rattle.move_table.specs.Moves.{filled}
+use Rattle.move_table.proofs.Shows.{length-filled}
 use Rattle.move_halves.specs.Halves.{ones, zeros}
 use Rattle.move_halves.proofs.Modulo.{plus, cancel, sums}
 use Rattle.move_halves.proofs.Sums.{over}

@@ -13,7 +13,7 @@ use lib.Seq.{getD-set-same, getD-set-other, ext-getD}
 use Rattle.sets.specs.Sets.{has, statesFrom}
 use Rattle.sets.proofs.Members.{has-high}
 use Rattle.rules.specs.Code.{unmetBy}
-use Rattle.shares.proofs.Shares.{isMet}
+use Rattle.move_table.proofs.Shares.{isMet}
 use Rattle.families.specs.Families.{inside}
 use Rattle.move_halves.specs.Halves.{ones, zeros}
 use Rattle.move_halves.proofs.Sums.{over, over-in, over-out}

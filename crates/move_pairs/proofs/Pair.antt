@@ -15,7 +15,7 @@ use Rattle.rules.specs.Looks.{looksAt}
 use Rattle.rules.specs.declared.Requirement.{Requirement}
 use Rattle.rules.proofs.Or.{or-first}
 use Rattle.rules.proofs.Good.{Good}
-use Rattle.shares.proofs.Shares.{isMet}
+use Rattle.move_table.proofs.Shares.{isMet}
 use Rattle.families.specs.Families.{without, joined}
 use Rattle.move_halves.specs.Halves.{side, back, heldBy, sideBut, backBut}
 use Rattle.move_halves.proofs.Levels.{only-in, only-out}

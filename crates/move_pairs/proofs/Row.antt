@@ -10,7 +10,7 @@ use Rattle.sets.proofs.Members.{has-lt, has-flip, has-flip-other}
 use Rattle.sets.proofs.Totals.{total-same}
 use Rattle.rules.specs.Requirements.{metCount}
 use Rattle.rules.specs.Looks.{looksAt, moveLooks}
-use Rattle.shares.proofs.Shares.{isMet}
+use Rattle.move_table.proofs.Shares.{isMet}
 use Rattle.families.specs.Families.{inside}
 use Rattle.move_halves.proofs.Sums.{met-counted, looks-counted, counted-from, over}
 use Rattle.move_halves.proofs.Sides.{digit}

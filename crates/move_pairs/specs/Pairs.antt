@@ -9,7 +9,7 @@ use Rattle.sets.specs.Sets.{has, flip, everyone, size, statesFrom}
 use Rattle.rules.specs.Requirements.{pairs}
 use Rattle.rules.specs.declared.Requirement.{Requirement}
 use Rattle.rules.proofs.Unmet.{unmetIn}
-use Rattle.shares.specs.Table.{raised}
+use Rattle.move_table.specs.Table.{raised}
 use Rattle.move_halves.specs.Halves.{ones, zeros}
 
 -- of the pairs of n states, in their order, those that no bit meets

@@ -2,7 +2,7 @@
 ghost use mathlib.Core.Path.{_≡_};
 ghost use Prim.Native.Nat.{_+_, _-_, _%_, _^_};
 ghost use Rattle.sets.specs.Sets.{size};
-ghost use Rattle.shares.specs.Moves.{filled};
+ghost use Rattle.move_table.specs.Moves.{filled};
 ghost use Rattle.move_pairs.specs.Pairs.{livePairs, likeOf, othersOf, partnersOf, pairsPut, pairsSwayed, pairsAdded};
 
 // The states below n but s; none where s is not one of them.
@@ -50,9 +50,9 @@ fn difference(x: u32, y: u32) -> u32
 fn put_pairs(like: u64, unlike: u64, s: usize, t: &mut [u32])
     ensures { λ r. ⌜ now (t .exit) ≡ pairsPut like unlike s (now (t .entry)) ⌝ }
 {
-    shares::raise(t, like, 4294967294);
-    shares::raise(t, unlike, 2);
-    shares::raise_one(t, s, difference(sets::size_of(unlike), sets::size_of(like)));
+    move_table::raise(t, like, 4294967294);
+    move_table::raise(t, unlike, 2);
+    move_table::raise_one(t, s, difference(sets::size_of(unlike), sets::size_of(like)));
 }
 
 // The move of s at the bit b, where p are the partners of s.
@@ -84,10 +84,10 @@ fn add_pairs(p: u64, b: u64, i: usize, t: &mut [u32])
     let x = sets::size_of(ones);
     let y = sets::size_of(p ^ ones);
     if sets::member(b, i) {
-        shares::raise_one(t, i, difference(x, y));
+        move_table::raise_one(t, i, difference(x, y));
         return;
     }
-    shares::raise_one(t, i, difference(y, x));
+    move_table::raise_one(t, i, difference(y, x));
 }
 
 // What all the live pairs add to the table at the bit b.

@@ -14,9 +14,9 @@ use lib.ListN.{length, drop}
 use Rattle.rules.specs.Refusals.{minus}
 use Rattle.rules.specs.Answers.{Reply, says, refuses, answered}
 use Rattle.rules.specs.declared.Refusal.the-variants.{NoRoom}
-use Rattle.replies.specs.declared.Said.{Said}
-use Rattle.replies.specs.Saying.{saying}
-use Rattle.replies.proofs.Small.{Small}
+use Rattle.host_replies.specs.declared.Said.{Said}
+use Rattle.host_replies.specs.Saying.{saying}
+use Rattle.host_replies.proofs.Small.{Small}
 use Rattle.tsurmokan.specs.Signed.{signed, Within}
 
 -- a number of 64 bits, read back as it was

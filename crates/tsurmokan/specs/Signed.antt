@@ -2,7 +2,7 @@
 use Prim.Native.Nat.{_<_}
 use lib.IntN.{ℤ, pos}
 use Rattle.rules.specs.Refusals.{minus}
-use Rattle.replies.specs.declared.Said.{Said}
+use Rattle.host_replies.specs.declared.Said.{Said}
 
 unfoldable pub signed : Said → ℤ
 unfolding minus

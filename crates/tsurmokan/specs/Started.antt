@@ -1,6 +1,6 @@
 -- What a start or a move answers, with its verdict as a number.
 use Rattle.rules.specs.Cases.{verdictNumbers}
-use Rattle.trial.specs.declared.Answer.{Answer}
+use Rattle.move_trial.specs.declared.Answer.{Answer}
 use Rattle.tsurmokan.specs.declared.records.Started.{Started}
 
 unfoldable pub numbered : Answer → Started

@@ -10,7 +10,7 @@ ghost use Rattle.rules.specs.Answers.{reportReply, coverReply, answered};
 pub extern "C" fn tsurmokan_report(listing: &[u8], out: &mut [u8]) -> i64
     ensures { λ r. ⌜ (r, now (out .exit)) ≡ answered (reportReply (now (listing .entry))) (now (out .entry)) ⌝ }
 {
-    numbers::answer(replies::Wanted::Report, listing, out)
+    numbers::answer(host_replies::Wanted::Report, listing, out)
 }
 
 // The cover.
@@ -18,5 +18,5 @@ pub extern "C" fn tsurmokan_report(listing: &[u8], out: &mut [u8]) -> i64
 pub extern "C" fn tsurmokan_cover(listing: &[u8], out: &mut [u8]) -> i64
     ensures { λ r. ⌜ (r, now (out .exit)) ≡ answered (coverReply (now (listing .entry))) (now (out .entry)) ⌝ }
 {
-    numbers::answer(replies::Wanted::Cover, listing, out)
+    numbers::answer(host_replies::Wanted::Cover, listing, out)
 }

@@ -4,7 +4,7 @@ ghost use Prim.Native.Nat.{_<_};
 ghost use lib.IntN.{pos};
 ghost use Rattle.rules.specs.Refusals.{minus};
 ghost use Rattle.rules.specs.Answers.{answered};
-ghost use Rattle.replies.specs.Saying.{replyTo};
+ghost use Rattle.host_replies.specs.Saying.{replyTo};
 ghost use Rattle.tsurmokan.specs.Signed.{signed, Within};
 
 // The length of a text.
@@ -25,20 +25,20 @@ fn minus_of(refusal: rules::Refusal, line: usize) -> i64
 }
 
 // What was said, as one signed number.
-fn number_of(said: replies::Said) -> i64
+fn number_of(said: host_replies::Said) -> i64
     requires { ⌜ Within said ⌝ }
     ensures { λ r. ⌜ r ≡ signed said ⌝ }
 {
     match said {
-        replies::Said::Text(n) => length_of(n),
-        replies::Said::Refused(r, line) => minus_of(r, line),
+        host_replies::Said::Text(n) => length_of(n),
+        host_replies::Said::Refused(r, line) => minus_of(r, line),
     }
 }
 
 // The answer to what is wanted.
-pub fn answer(wanted: replies::Wanted, listing: &[u8], out: &mut [u8]) -> i64
+pub fn answer(wanted: host_replies::Wanted, listing: &[u8], out: &mut [u8]) -> i64
     ensures { λ r. ⌜ (r, now (out .exit)) ≡ answered (replyTo wanted (now (listing .entry))) (now (out .entry)) ⌝ }
 {
-    let said = replies::say(wanted, listing, out);
+    let said = host_replies::say(wanted, listing, out);
     number_of(said)
 }

@@ -1,5 +1,5 @@
 -- `bit_live::fill_live` meets its contract.
-use Rattle.shares.specs.Moves.{filled}
+use Rattle.move_table.specs.Moves.{filled}
 use Rattle.families.specs.Families.{requirementsIn}
 use Rattle.move_pairs.specs.Pairs.{livePairs}
 use Rattle.bit_live.proofs.Live.{filled-append}

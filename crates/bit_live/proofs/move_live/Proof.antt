@@ -18,7 +18,7 @@ use Rattle.bit_live.proofs.move_live.Lts as lts
 use Rattle.move_families.proofs.double_own.Reads as double-own-reads
 use Rattle.move_families.proofs.sway_families.Reads as sway-families-reads
 use Rattle.move_pairs.proofs.sway_pairs.Reads as sway-pairs-reads
-use Rattle.shares.proofs.level_at.Reads as level-at-reads
+use Rattle.move_table.proofs.level_at.Reads as level-at-reads
 use Rattle.std.proofs.num.wrapping_add_usize.Reads as wrapping-add-usize-reads
 
 level-at-requires : tie.Need-level-at-requires

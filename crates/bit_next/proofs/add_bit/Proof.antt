@@ -1,8 +1,8 @@
 -- `bit_next::add_bit` meets its contract.
 use Prim.Native.Nat.{min}
 use Rattle.rules.specs.OneBit.{complemented}
-use Rattle.choice.specs.Pass.{builtBy}
-use Rattle.choice.specs.declared.Built.{Built}
+use Rattle.bit_choice.specs.Pass.{builtBy}
+use Rattle.bit_choice.specs.declared.Built.{Built}
 use Rattle.bit_live.specs.Live.{liveIn}
 use Rattle.bit_next.specs.NextBit.{nextBy}
 use Prim.Native.Nat.{ℕ, zero, suc, _≤_, _<_, _-_, _+_, _*_, _^_}
@@ -23,7 +23,7 @@ use Rattle.bit_next.proofs.add_bit.Lts as lts
 use Rattle.bit_live.proofs.sift_families.Reads as sift-families-reads
 use Rattle.bit_live.proofs.start_live.Reads as start-live-reads
 use Rattle.bit_passes.proofs.build_bit.Reads as build-bit-reads
-use Rattle.choice.proofs.complement.Reads as complement-reads
+use Rattle.bit_choice.proofs.complement.Reads as complement-reads
 
 start-live-requires : tie.Need-start-live-requires
 start-live-requires c κs = search needs

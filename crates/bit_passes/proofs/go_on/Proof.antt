@@ -17,10 +17,10 @@ use Rattle.bit_passes.proofs.go_on.Tie as tie
 use Rattle.bit_passes.proofs.go_on.Reads as reads
 use Rattle.bit_passes.proofs.go_on.Lts as lts
 use Rattle.bit_live.proofs.move_live.Reads as move-live-reads
-use Rattle.choice.proofs.best_of.Reads as best-of-reads
-use Rattle.choice.proofs.choose.Reads as choose-reads
-use Rattle.choice.proofs.reach.Reads as reach-reads
-use Rattle.shares.proofs.level_at.Reads as level-at-reads
+use Rattle.bit_choice.proofs.best_of.Reads as best-of-reads
+use Rattle.bit_choice.proofs.choose.Reads as choose-reads
+use Rattle.bit_choice.proofs.reach.Reads as reach-reads
+use Rattle.move_table.proofs.level_at.Reads as level-at-reads
 use Rattle.sets.proofs.flipped.Reads as flipped-reads
 
 choose-requires : tie.Need-choose-requires

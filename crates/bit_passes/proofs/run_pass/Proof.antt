@@ -2,9 +2,9 @@
 use mathlib.Core.Path.{ap₂}
 use Prim.Native.Nat.{min}
 use Rattle.sets.specs.Sets.{everyone}
-use Rattle.shares.specs.Table.{level}
-use Rattle.choice.specs.Pass.{Going, going, goMoves, passed}
-use Rattle.choice.proofs.OneMove.{moves-start, moves-more, moves-end}
+use Rattle.move_table.specs.Table.{level}
+use Rattle.bit_choice.specs.Pass.{Going, going, goMoves, passed}
+use Rattle.bit_choice.proofs.OneMove.{moves-start, moves-more, moves-end}
 use Rattle.bit_live.specs.Live.{liveIn}
 use Prim.Native.Nat.{ℕ, zero, suc, _≤_, _<_, _-_, _+_, _*_, _^_}
 use mathlib.Core.Path.{_≡_, refl, sym, ap, _∙_}

@@ -1,5 +1,5 @@
 -- `bit_passes::run_passes` meets its contract.
-use Rattle.choice.specs.Pass.{passesBy, tallied}
+use Rattle.bit_choice.specs.Pass.{passesBy, tallied}
 use Rattle.bit_live.specs.Live.{liveIn}
 use Rattle.bit_passes.specs.Runs.{ranOn}
 use Rattle.bit_passes.proofs.Running.{built-done, built-end, allowed, allowed-first, allowed-more, allowed-last}

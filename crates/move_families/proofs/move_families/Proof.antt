@@ -22,7 +22,7 @@ use Rattle.move_families.proofs.move_families.Reads as reads
 use Rattle.move_families.proofs.move_families.Lts as lts
 use Rattle.move_families.proofs.double_own.Reads as double-own-reads
 use Rattle.move_families.proofs.sway_families.Reads as sway-families-reads
-use Rattle.shares.proofs.level_at.Reads as level-at-reads
+use Rattle.move_table.proofs.level_at.Reads as level-at-reads
 
 level-at-requires : tie.Need-level-at-requires
 level-at-requires c κs = search needs

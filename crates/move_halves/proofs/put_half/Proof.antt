@@ -17,7 +17,7 @@ use Rattle.move_halves.proofs.put_half.Reads as reads
 use Rattle.move_halves.proofs.put_half.Lts as lts
 use Rattle.move_halves.proofs.signed_of.Reads as signed-of-reads
 use Rattle.sets.proofs.few.Reads as few-reads
-use Rattle.shares.proofs.raise.Reads as raise-reads
+use Rattle.move_table.proofs.raise.Reads as raise-reads
 
 signed-of-requires : tie.Need-signed-of-requires
 signed-of-requires c κs = search needs

@@ -1,7 +1,7 @@
 -- `tsurmokan::numbers::answer` meets its contract.
 use Rattle.tsurmokan.proofs.Said.{back, said-within, number-given}
-use Rattle.replies.specs.Saying.{replyTo}
-use Rattle.replies.proofs.Small.{small}
+use Rattle.host_replies.specs.Saying.{replyTo}
+use Rattle.host_replies.proofs.Small.{small}
 use mathlib.Core.Path.{_∙_}
 use borrow.Author.Needs.{needs}
 use Rattle.tsurmokan.proofs.numbers.answer.Statement.{statement}

@@ -48,21 +48,21 @@ use Rattle.rules.proofs.StateNumber as S
 use Rattle.rules.proofs.StateNumber.Laws as S′
 use Rattle.rules.proofs.Verdict as E
 use Rattle.rules.proofs.Verdict.Laws as E′
-use Rattle.trial.specs.Record.{moveOf}
-use Rattle.trial.specs.declared.Trial.{Trial}
-use Rattle.trial.specs.declared.Answer.{Answer}
-use Rattle.trial.proofs.Trial as T
-use Rattle.trial.proofs.Trial.Laws as T′
-use Rattle.trial.proofs.Answer as N
-use Rattle.trial.proofs.Answer.Laws as N′
-use Rattle.trial.proofs.Trial.make_move as make-move
-use Rattle.trial.proofs.Trial.make_move.Symbol as make-move-def
-use Rattle.trial.proofs.Trial.make_move.Symbol.{name as #make-move}
-use Rattle.trial.proofs.Trial.make_move.Met as make-move-thm
-use Rattle.trial.proofs.number_of as number-of
-use Rattle.trial.proofs.number_of.Symbol as number-of-def
-use Rattle.trial.proofs.number_of.Symbol.{name as #number-of}
-use Rattle.trial.proofs.number_of.Met as number-of-thm
+use Rattle.move_trial.specs.Record.{moveOf}
+use Rattle.move_trial.specs.declared.Trial.{Trial}
+use Rattle.move_trial.specs.declared.Answer.{Answer}
+use Rattle.move_trial.proofs.Trial as T
+use Rattle.move_trial.proofs.Trial.Laws as T′
+use Rattle.move_trial.proofs.Answer as N
+use Rattle.move_trial.proofs.Answer.Laws as N′
+use Rattle.move_trial.proofs.Trial.make_move as make-move
+use Rattle.move_trial.proofs.Trial.make_move.Symbol as make-move-def
+use Rattle.move_trial.proofs.Trial.make_move.Symbol.{name as #make-move}
+use Rattle.move_trial.proofs.Trial.make_move.Met as make-move-thm
+use Rattle.move_trial.proofs.number_of as number-of
+use Rattle.move_trial.proofs.number_of.Symbol as number-of-def
+use Rattle.move_trial.proofs.number_of.Symbol.{name as #number-of}
+use Rattle.move_trial.proofs.number_of.Met as number-of-thm
 use Rattle.tsurmokan.proofs.records.tsurmokan_move.Key.{name as #move-held}
 use Rattle.tsurmokan.proofs.records.tsurmokan_move as move-held
 use Rattle.tsurmokan.proofs.records.tsurmokan_move.Statement as stated
@@ -220,6 +220,6 @@ tsurmokan-move-spec 𝓤 H 𝓜 𝓖 𝓡 =
     entered 𝓤 H (tripleOf 𝓤 H (𝓖 .A) move-held.signature (move-held.spec 𝓤 H (𝓖 .A) (𝓜 .mem) (𝓡 .run)))
     (tables 𝓤 H 𝓜 𝓡 code.env .C) (tables 𝓤 H 𝓜 𝓡 code.env .Λ) #move-held code.function (code.unfolded 𝓤 H 𝓜 𝓡)
     (move-held-meets 𝓤 H (𝓖 .A) (givenOf 𝓤 H 𝓜 𝓖) (𝓜 .mem) (𝓡 .run) (tablesOf 𝓤 H 𝓜 (tables 𝓤 H 𝓜 𝓡 code.env))
-    (cited 𝓤 H (Moves 𝓤 H (𝓖 .A) (𝓜 .mem) (𝓡 .run)) 𝓜 𝓡 code.env #make-move make-move-def.routine code.calls-trial·Trial·make-move
+    (cited 𝓤 H (Moves 𝓤 H (𝓖 .A) (𝓜 .mem) (𝓡 .run)) 𝓜 𝓡 code.env #make-move make-move-def.routine code.calls-move-trial·Trial·make-move
     (make-move-thm.met 𝓤 H 𝓜 𝓖 𝓡))
-    (cited 𝓤 H (Numbers 𝓤 H (𝓖 .A) (𝓜 .mem) (𝓡 .run)) 𝓜 𝓡 code.env #number-of number-of-def.routine code.calls-trial·number-of (number-of-thm.met 𝓤 H 𝓜 𝓖 𝓡)))
+    (cited 𝓤 H (Numbers 𝓤 H (𝓖 .A) (𝓜 .mem) (𝓡 .run)) 𝓜 𝓡 code.env #number-of number-of-def.routine code.calls-move-trial·number-of (number-of-thm.met 𝓤 H 𝓜 𝓖 𝓡)))

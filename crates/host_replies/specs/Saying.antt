@@ -1,0 +1,52 @@
+-- What is wanted, what is said, and what the buffer then holds; and what an encoding is that both texts are written from.
+use mathlib.Core.Path.{_≡_}
+use mathlib.Core.Bool.{Bool, false, cond}
+use mathlib.Core.List.{List, _++_}
+use Prim.Native.Nat.{ℕ, _^_, _≤_, _<_}
+use lib.Dec.{leb}
+use lib.ListN.{length, take, drop}
+use Rattle.rules.specs.Limits.{most-bits}
+use Rattle.rules.specs.Requirements.{pairsAndGroups}
+use Rattle.rules.specs.Code.{Code, coded, coding, unmetFrom}
+use Rattle.rules.specs.Cover.{cover}
+use Rattle.rules.specs.Answers.{Reply, says, refuses, reportOf, coverOf, reportReply, coverReply}
+use Rattle.rules.specs.declared.Listing.{Listing}
+use Rattle.rules.specs.declared.Encoding.{Encoding}
+use Rattle.rules.specs.declared.Refusal.the-variants.{NoRoom}
+use Rattle.rules.proofs.Sound.{Sound}
+use Rattle.write_report.specs.Report.{Holds, encodedReport}
+use Rattle.host_replies.specs.declared.Wanted.{Wanted}
+use Rattle.host_replies.specs.declared.Said.{Said}
+
+-- ---- 01's reply to what is wanted, of any bytes and of a listing
+
+unfoldable pub replyTo : Wanted → List ℕ → Reply
+unfolding reportReply coverReply
+replyTo Wanted.Report s = reportReply s
+replyTo Wanted.Cover s = coverReply s
+
+unfoldable pub replyOf : Wanted → Listing → Reply
+unfolding coverOf coding
+replyOf Wanted.Report t = reportOf t (coding t)
+replyOf Wanted.Cover t = coverOf t (coding t)
+
+-- ---- what is said, and the buffer
+
+-- so many bytes are always enough
+abbrev pub room : ℕ
+room = 100000
+
+-- The text where it fits, with the bytes behind it as they came; where not, 10, and where it is refused, that: the buffer is then as it came.
+unfoldable pub saying : Reply → List ℕ → Said × List ℕ
+saying (says text) out = cond (leb (length text) (length out)) (Said.Text (length text), text ++ drop (length text) out) (Said.Refused NoRoom 0, out)
+saying (refuses r line) out = (Said.Refused r line, out)
+
+-- an encoding that holds the code of a sound listing
+pub record Whole (t : Listing) (e : Encoding) : Type 0 where
+  pub sound : Sound t
+  pub code : Code
+  pub is : coding t ≡ coded code
+  pub holds : Holds t code e
+  pub narrow : e .width ≤ most-bits
+  pub few-passes : e .passes < 2 ^ 64
+  pub few-looks : e .looks < 2 ^ 64

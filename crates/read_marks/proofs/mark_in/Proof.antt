@@ -1,0 +1,55 @@
+-- `read_marks::mark_in` meets its contract: the first of the four marks that the field is.
+use mathlib.Core.Path.{_≡_, sym, _∙_}
+use mathlib.Core.Bool.{false}
+use borrow.Author.Needs.{needs}
+use Rattle.rules.specs.Text.{bytes, same, markIs}
+use Rattle.read_marks.proofs.mark_in.Statement.{statement}
+use Rattle.read_marks.proofs.mark_in.Tie as tie
+
+is-mark-requires : tie.Need-is-mark-requires
+is-mark-requires c κs = search needs
+
+returns : tie.Need-returns
+unfolding markIs
+returns c = rw (sym (c .before .is-mark .ensures) ∙ c .if1 .taken)
+
+not-mc : (c : tie.Else1) → same (c .before .before .before .before .args .f .now) (bytes "MC") ≡ false
+not-mc c = sym (c .before .is-mark .ensures) ∙ c .if1 .left
+
+is-mark-requires-2 : tie.Need-is-mark-requires-2
+is-mark-requires-2 c κs = search needs
+
+returns-2 : tie.Need-returns-2
+unfolding markIs
+returns-2 c = rw (not-mc (c .before .before .before), sym (c .before .is-mark2 .ensures) ∙ c .if2 .taken)
+
+not-pt : (c : tie.Else2) → same (c .before .before .before .before .before .before .before .args .f .now) (bytes "PT") ≡ false
+not-pt c = sym (c .before .is-mark2 .ensures) ∙ c .if2 .left
+
+is-mark-requires-3 : tie.Need-is-mark-requires-3
+is-mark-requires-3 c κs = search needs
+
+returns-3 : tie.Need-returns-3
+unfolding markIs
+returns-3 c = rw (not-mc (c .before .before .before .before .before .before), not-pt (c .before .before .before), sym (c .before .is-mark3 .ensures) ∙ c .if3 .taken)
+
+not-di : (c : tie.Else3) → same (c .before .before .before .before .before .before .before .before .before .before .args .f .now) (bytes "DI") ≡ false
+not-di c = sym (c .before .is-mark3 .ensures) ∙ c .if3 .left
+
+is-mark-requires-4 : tie.Need-is-mark-requires-4
+is-mark-requires-4 c κs = search needs
+
+returns-4 : tie.Need-returns-4
+unfolding markIs
+returns-4 c =
+    let d = c .before .before .before in
+    rw (not-mc (d .before .before .before .before .before .before), not-pt (d .before .before .before), not-di d, sym (c .before .is-mark4 .ensures) ∙ c .if4 .taken)
+
+returns-5 : tie.Need-returns-5
+unfolding markIs
+returns-5 c =
+    let d = c .before .before .before in
+    rw (not-mc (d .before .before .before .before .before .before), not-pt (d .before .before .before), not-di d, sym (c .before .is-mark4 .ensures) ∙ c .if4 .left)
+
+pub mark-in-spec : {M : Type 1} → statement M
+mark-in-spec = tie.close (tie.spec is-mark-requires returns is-mark-requires-2 returns-2 is-mark-requires-3 returns-3 is-mark-requires-4 returns-4 returns-5)

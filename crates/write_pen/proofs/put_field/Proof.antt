@@ -1,0 +1,20 @@
+-- `write_pen::put_field` meets its contract.
+use borrow.Author.Needs.{needs}
+use Rattle.write_pen.proofs.Laws.{wrote-then}
+use Rattle.write_pen.proofs.put_field.Statement.{statement}
+use Rattle.write_pen.proofs.put_field.Tie as tie
+
+put-number-requires : tie.Need-put-number-requires
+put-number-requires c κs = search needs
+
+put-byte-requires : tie.Need-put-byte-requires
+put-byte-requires c κs = search needs
+
+same-length : tie.Need-same-length
+same-length c = search needs
+
+returns : tie.Need-returns
+returns c = wrote-then (c .before .before .before .before .before .before .put-number .ensures) (c .before .before .put-byte .ensures)
+
+pub put-field-spec : {M : Type 1} → statement M
+put-field-spec = tie.close (tie.spec put-number-requires put-byte-requires same-length returns)
