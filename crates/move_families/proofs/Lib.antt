@@ -1,4 +1,5 @@
 pub mod Lists
 pub mod Whole
 pub mod Turn
+pub mod Marked
 pub mod Filling

@@ -1,2 +1,3 @@
 pub mod Swayed
 pub mod Filled
+pub mod Marks

@@ -1,4 +1,6 @@
 // A list of families: the gain table is filled, and a state is moved, as if each of their requirements were visited.
+mod marks;
+
 ghost use mathlib.Core.Path.{_≡_};
 ghost use Prim.Native.Nat.{_+_, _-_, _*_, _%_, _^_};
 ghost use Rattle.sets.specs.Sets.{flip};
@@ -62,17 +64,18 @@ pub fn double_own(t: &mut [u32], s: usize, v: u32)
     }
 }
 
-// The move of s at the bit b, for each family in turn, with the moved state's own change by half; the answer is how many requirements it looks at, modulo
+// The move of s at the bit b, for each family in turn, run by run, with the moved state's own change by half; the answer is how many requirements it looks at, modulo
 // 2 ^ 64.
 pub fn sway_families(fs: &[u64], b: u64, s: usize, t: &mut [u32]) -> usize
     ensures { λ r. ⌜ (r ≡ looksAll (now (fs .entry)) b s % 2 ^ 64) × (now (t .exit) ≡ swayedAll (now (fs .entry)) b s (now (t .entry))) ⌝ }
 {
     let mut looks: usize = 0;
     let mut i: usize = 0;
-    while 2 < fs.len() - i {
-        let one = move_halves::move_family(fs[i], fs[i + 1], fs[i + 2], b, s, t);
+    while i < fs.len() {
+        let end = i + sets::least(marks::RUN, fs.len() - i);
+        let one = marks::sway_run(&fs[i..end], b, s, t);
         looks = std::num::wrapping_add_usize(looks, one);
-        i += 3;
+        i = end;
     }
     looks
 }

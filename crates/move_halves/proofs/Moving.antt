@@ -2,14 +2,15 @@
 use mathlib.Core.Path.{_≡_, refl, sym, ap, ap₂, _∙_}
 use mathlib.Core.Bool.{Bool, true, false, _&&_, _||_, not, cond}
 use mathlib.Core.List.{List}
-use Prim.Native.Nat.{ℕ, _^_, _<_}
-use native.Mathlib.Decide.{decLt}
+use Prim.Native.Nat.{ℕ, zero, suc, _^_, _≤_, _<_}
+use native.Mathlib.Decide.{decLt, ℕ-discrete}
 use native.Mathlib.Omega.{arith}
-use lib.Bits.{bitAnd, bitOr, bitXor}
+use lib.Bits.{bitAnd, bitOr, bitXor, and-zero-r, and-le-l}
 use lib.Dec.{eqb, leb}
+use mir.Val.{boolByte}
 use borrow.Author.Tests.{eq-eqb, ne-eqb, eqb-true, eqb-false}
 use Rattle.sets.specs.Sets.{has, only, size}
-use Rattle.sets.proofs.Members.{has-lt, has-or, has-high}
+use Rattle.sets.proofs.Members.{has-lt, has-and, has-or, has-none, has-only, has-other, has-high, same-mask}
 use Rattle.families.specs.Families.{without}
 use Rattle.move_halves.specs.Halves.{side, ones, zeros, worth, halved, sideBut, backBut, nearBut, nearAt, swayedIn, swayedOut, swayed, looksBy, looksOf}
 use Rattle.move_halves.proofs.Far.{swayed-far, looks-far}
@@ -22,6 +23,39 @@ member-below m s h e = go (decLt s 64)
     go : Dec (s < 64) → s < 64
     go (yes l) = l
     go (no l) = absurd (omega (arith, has-high 64 m s h (omega arith)))
+
+-- a member, by the mask of the state alone
+pub member-by : (m own s : ℕ) → m < 2 ^ 64 → (s < 64 → own ≡ only s) × (64 ≤ s → own ≡ 0) → not (eqb (bitAnd m own) 0) ≡ eqb (has m s) 1
+member-by m own s fits e = go (has m s) refl (has-lt m s)
+  where
+    none : has m s ≡ 0 → Dec (s < 64) → bitAnd m own ≡ 0
+    none z (yes l) = ap (bitAnd m) (e .0 l) ∙ same-mask 64 (bitAnd m (only s)) 0 (omega (arith, and-le-l m (only s))) (omega arith) (λ t _. each t (ℕ-discrete t s))
+      where
+        each : (t : ℕ) → Dec (t ≡ s) → has (bitAnd m (only s)) t ≡ has 0 t
+        each t (yes q) = omega (arith, has-and m (only s) t, ap (has m) q, has-none t)
+        each t (no q) = omega (arith, has-and m (only s) t, has-other s t q, has-none t)
+    none z (no l) = ap (bitAnd m) (e .1 (omega arith)) ∙ and-zero-r m
+
+    some : has m s ≡ 1 → bitAnd m own ≡ 0 → ⊥
+    some o z =
+        let l : s < 64 = member-below m s fits o in
+        omega (arith, has-and m (only s) s, has-only s, ap (λ (x : ℕ). has x s) (sym (ap (bitAnd m) (e .0 l)) ∙ z), has-none s)
+
+    go : (d : ℕ) → has m s ≡ d → d < 2 → not (eqb (bitAnd m own) 0) ≡ eqb (has m s) 1
+    go zero h l = ap not (eq-eqb (bitAnd m own) 0 (none h (decLt s 64))) ∙ sym (ne-eqb (has m s) 1 (λ d. omega arith))
+    go (suc zero) h l = ap not (ne-eqb (bitAnd m own) 0 (some h)) ∙ sym (eq-eqb (has m s) 1 h)
+    go (suc (suc d)) h l = absurd (omega arith)
+
+-- tests as numbers
+as-number : (p q u : Bool) → bitAnd (bitOr (boolByte p) (boolByte q)) (boolByte u) ≡ cond (u && (p || q)) 1 0
+as-number true true true = refl
+as-number true false true = refl
+as-number false true true = refl
+as-number false false true = refl
+as-number true true false = refl
+as-number true false false = refl
+as-number false true false = refl
+as-number false false false = refl
 
 module _ (all flip out b s : ℕ) (t : List ℕ) where
   -- the family has not the state, or is far without it
@@ -40,6 +74,13 @@ module _ (all flip out b s : ℕ) (t : List ℕ) where
       go : (u : Bool) → eqb (has (bitOr all out) s) 1 ≡ u → (u && nearBut all flip b s) ≡ false → (looksOf all flip out b s ≡ 0) × (swayed all flip out b s t ≡ t)
       go true h e = (looks-far all flip out b s e, swayed-far all flip out b s e t)
       go false h e = missing h
+
+  -- the mark of a family, from what code finds on the way
+  pub by-mark : (p q u : Bool) → u ≡ eqb (has (bitOr all out) s) 1 → (has (bitOr all out) s ≡ 1 → (p || q) ≡ nearAt all flip out b s)
+      → bitAnd (bitOr (boolByte p) (boolByte q)) (boolByte u) ≡ cond (nearAt all flip out b s) 1 0
+  unfolding nearAt
+  by-mark p q true e h = as-number p q true ∙ ap (λ (x : Bool). cond x 1 0) (h (eqb-true (has (bitOr all out) s) 1 (sym e)))
+  by-mark p q false e h = as-number p q false ∙ ap (λ (x : Bool). cond (x && nearBut all flip b s) 1 0) e
 
   -- what it says of a family that is not passed over
   pub near-has : nearAt all flip out b s ≡ true → (has (bitOr all out) s ≡ 1) × (nearBut all flip b s ≡ true)

@@ -1,6 +1,6 @@
 // A family of requirements, which have all their members but one in common: its halves, and what a move changes of it in the gain table.
 ghost use mathlib.Core.Path.{_≡_};
-ghost use mathlib.Core.Bool.{_||_, not, cond};
+ghost use mathlib.Core.Bool.{true, _||_, not, cond};
 ghost use lib.Dec.{eqb, leb};
 ghost use Rattle.sets.specs.Sets.{size};
 ghost use Rattle.move_halves.specs.Halves.{signed, side, worth, halved, nearAt, swayed, looksBy, looksOf};
@@ -113,26 +113,22 @@ fn move_out(on: bool, all: u64, x: u64, y: u64, own: u64, t: &mut [u32])
     put_half(!on, 1, all, y, own, 0, t);
 }
 
-// Whether the move of s at the bit b can touch a family: it has the state, and without it at most one must change, one way round or the other.
-pub fn near_family(all: u64, flip: u64, out: u64, b: u64, s: usize) -> bool
-    ensures { λ r. ⌜ r ≡ nearAt all flip out b s ⌝ }
+// 1 if the move of s at the bit b can touch a family, and else 0: it has the state, and without it at most one must change, one way round or the other.
+// By numbers alone, so that a loop over many families has no branch to guess.
+pub fn mark_of(all: u64, flip: u64, out: u64, b: u64, s: usize) -> u64
+    ensures { λ r. ⌜ r ≡ cond (nearAt all flip out b s) 1 0 ⌝ }
 {
-    if !sets::member(all | out, s) {
-        return false;
-    }
-    let others = families::without_of(all, sets::flipped(0, s));
+    let own = sets::flipped(0, s);
+    let others = families::without_of(all, own);
     let x = side_of(others, flip, b);
-    near_of(x, others ^ x)
+    let near = (sets::few(x) as u64) | (sets::few(others ^ x) as u64);
+    near & (((all | out) & own != 0) as u64)
 }
 
-// The move of s at the bit b, for one family: its looks, and the table with its changes, the moved state's own change by half. A family without s, and
-// one that is far without it, is passed over.
-pub fn move_family(all: u64, flip: u64, out: u64, b: u64, s: usize, t: &mut [u32]) -> usize
-    ensures { λ r. ⌜ (r ≡ looksOf all flip out b s) × (now (t .exit) ≡ swayed all flip out b s (now (t .entry))) ⌝ }
+// The move of s at the bit b, for one family that it can touch: its looks, and the table with its changes, the moved state's own change by half.
+pub fn move_near(all: u64, flip: u64, out: u64, b: u64, s: usize, t: &mut [u32]) -> usize
+    ensures { λ r. ⌜ (nearAt all flip out b s ≡ true → (r ≡ looksOf all flip out b s) × (now (t .exit) ≡ swayed all flip out b s (now (t .entry)))) ⌝ }
 {
-    if !near_family(all, flip, out, b, s) {
-        return 0;
-    }
     let own = sets::flipped(0, s);
     let others = families::without_of(all, own);
     let x = side_of(others, flip, b);

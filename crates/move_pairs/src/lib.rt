@@ -26,13 +26,16 @@ fn like_of(p: u64, b: u64, s: usize) -> u64
     p ^ (p & b)
 }
 
-// The partners of state s: the other states on which every bit has the value that it has on s.
+// The partners of state s: the other states on which every bit has the value that it has on s. Once there is none, no bit brings one.
 pub fn partners_of(n: usize, bits: &[u64], s: usize) -> u64
     ensures { λ r. ⌜ r ≡ partnersOf n (now (bits .entry)) s ⌝ }
 {
     let mut p = others_of(n, s);
     let mut i: usize = 0;
     while i < bits.len() {
+        if p == 0 {
+            return 0;
+        }
         p = like_of(p, bits[i], s);
         i += 1;
     }

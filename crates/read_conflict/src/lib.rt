@@ -1,7 +1,5 @@
 // The scan for two rows that clash.
 ghost use mathlib.Core.Path.{_≡_};
-ghost use Prim.Native.Nat.{min};
-ghost use Rattle.rules.specs.Limits.{most-rows};
 ghost use Rattle.rules.specs.Listing.{shareInput, clash, conflict, rowsOf};
 use rules::Listing;
 use rules::Refusal;
@@ -39,21 +37,11 @@ fn clashes(a: Row, b: Row) -> bool
     a.next != b.next
 }
 
-// How many rows stand in a table that is said to have so many.
-fn within_table(rows: usize) -> usize
-    ensures { λ r. ⌜ r ≡ min rows most-rows ⌝ }
-{
-    if rows <= rules::MOST_ROWS {
-        return rows;
-    }
-    rules::MOST_ROWS
-}
-
 // The first pair of rows that clash, by the earlier row and then the later one: refused at the later row's line.
 pub fn first_clash(t: Listing) -> Verdict
     ensures { λ r. ⌜ r ≡ conflict (rowsOf t) ⌝ }
 {
-    let n = within_table(t.rows);
+    let n = sets::least(t.rows, rules::MOST_ROWS);
     let mut found = Verdict::Accepted;
     let mut i: usize = 0;
     'pairs: while i < n {

@@ -2,10 +2,22 @@
 ghost use mathlib.Core.Path.{_≡_};
 ghost use mathlib.Core.Bool.{_&&_, _||_};
 ghost use lib.Dec.{leb, eqb};
-ghost use Rattle.rules.specs.Text.{nought, nine, digit, allOf, sized, numeralOf};
-ghost use Rattle.read_fields.specs.Fields.{numberShaped, setWithin, patternWithin};
+ghost use Rattle.rules.specs.Text.{nought, nine, digit, numeralOf};
+ghost use Rattle.read_fields.specs.Fields.{numberShaped, placesOf, placesIn, patternIn};
 use rules::Numeral;
 use rules::Pattern;
+
+// What a field of three kinds of characters says: the places of two of the kinds.
+pub enum Places {
+    Read(u64, u64),
+    Bad,
+}
+
+// What a field of `0 1 -` says.
+pub enum PatternField {
+    Read(Pattern),
+    Bad,
+}
 
 // Whether a character is one of three.
 fn one_of(x: u8, a: u8, b: u8, c: u8) -> bool
@@ -20,33 +32,6 @@ fn one_of(x: u8, a: u8, b: u8, c: u8) -> bool
     x == c
 }
 
-// Whether each character of a field is one of three.
-fn all_of(f: &[u8], a: u8, b: u8, c: u8) -> bool
-    ensures { λ r. ⌜ r ≡ allOf a b c (now (f .entry)) ⌝ }
-{
-    let mut i = 0;
-    while i < f.len() {
-        if !one_of(f[i], a, b, c) {
-            return false;
-        }
-        i += 1;
-    }
-    true
-}
-
-// Whether a field has k characters, at most `most`, and each is one of three.
-pub fn is_sized(f: &[u8], most: usize, k: usize, a: u8, b: u8, c: u8) -> bool
-    ensures { λ r. ⌜ r ≡ sized most k a b c (now (f .entry)) ⌝ }
-{
-    if most < f.len() {
-        return false;
-    }
-    if f.len() != k {
-        return false;
-    }
-    all_of(f, a, b, c)
-}
-
 // 1 for two equal characters, and 0 for others.
 fn digit_of(x: u8, c: u8) -> u64
     ensures { λ r. ⌜ r ≡ digit (eqb x c) ⌝ }
@@ -57,33 +42,55 @@ fn digit_of(x: u8, c: u8) -> u64
     0
 }
 
-// The set of the places where a field has character c; none where the field is longer than a mask.
-pub fn set_of(f: &[u8], c: u8) -> u64
-    ensures { λ r. ⌜ r ≡ setWithin 64 c (now (f .entry)) ⌝ }
+// The places of b and those of c in a field of at most 64 characters, each of them a, b or c.
+fn places_of(f: &[u8], a: u8, b: u8, c: u8) -> Places
+    ensures { λ r. ⌜ r ≡ placesOf a b c (now (f .entry)) ⌝ }
 {
     if 64 < f.len() {
-        return 0;
+        return Places::Bad;
     }
     let mut m: u64 = 0;
+    let mut n: u64 = 0;
     let mut i = f.len();
     while 0 < i {
         i -= 1;
-        m = m * 2 + digit_of(f[i], c);
+        let x = f[i];
+        if !one_of(x, a, b, c) {
+            return Places::Bad;
+        }
+        m = m * 2 + digit_of(x, b);
+        n = n * 2 + digit_of(x, c);
     }
-    m
+    Places::Read(m, n)
 }
 
-// The ones and the dashes of a field; none where the field is longer than a pattern.
-pub fn pattern_of(f: &[u8]) -> Pattern
-    ensures { λ r. ⌜ r ≡ patternWithin 32 (now (f .entry)) ⌝ }
+// The places of b and those of c in a field of k characters, at most `most`, each of them a, b or c.
+pub fn places_in(f: &[u8], most: usize, k: usize, a: u8, b: u8, c: u8) -> Places
+    ensures { λ r. ⌜ r ≡ placesIn most k a b c (now (f .entry)) ⌝ }
+{
+    if most < f.len() {
+        return Places::Bad;
+    }
+    if f.len() != k {
+        return Places::Bad;
+    }
+    places_of(f, a, b, c)
+}
+
+// What a field of k characters `0 1 -` says, at most `most` and at most 32.
+pub fn pattern_in(f: &[u8], most: usize, k: usize) -> PatternField
+    ensures { λ r. ⌜ r ≡ patternIn most k (now (f .entry)) ⌝ }
 {
     if 32 < f.len() {
-        return Pattern { ones: 0, dashes: 0 };
+        return PatternField::Bad;
     }
-    Pattern {
-        ones: set_of(f, b'1') as u32,
-        dashes: set_of(f, b'-') as u32,
-    }
+    let Places::Read(ones, dashes) = places_in(f, most, k, b'0', b'1', b'-') else {
+        return PatternField::Bad;
+    };
+    PatternField::Read(Pattern {
+        ones: ones as u32,
+        dashes: dashes as u32,
+    })
 }
 
 // Whether a field has a number's length and no needless leading zero.

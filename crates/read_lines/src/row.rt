@@ -1,42 +1,17 @@
 // `PT input group next outputs`: a row.
 ghost use mathlib.Core.Path.{_≡_};
-ghost use Rattle.rules.specs.Lines.{rowFits, rowChecked, rowLine};
-ghost use Rattle.read_lines.specs.Rows.{rowWithin};
-use read_pieces::field;
-use read_pieces::field_count;
+ghost use Rattle.rules.specs.Lines.{rowChecked, rowLine};
+ghost use Rattle.read_lines.specs.Rows.{rowRead, rowRest};
+use read_fields::PatternField;
+use read_fields::Places;
+use read_pieces::behind;
+use read_pieces::cut;
+use read_pieces::first_of;
+use read_pieces::stands_at;
 use rules::Head;
 use rules::Refusal;
 use rules::Row;
 use rules::RowLine;
-
-// Whether the fields of a row have their lengths and characters.
-fn row_fits(h: Head, input: &[u8], group: &[u8], next: &[u8], outputs: &[u8]) -> bool
-    ensures { λ r. ⌜ r ≡ rowFits h (now (input .entry)) (now (group .entry)) (now (next .entry)) (now (outputs .entry)) ⌝ }
-{
-    if !read_fields::is_sized(input, rules::MOST_INPUTS, h.inputs, b'0', b'1', b'-') {
-        return false;
-    }
-    if !read_fields::is_sized(group, rules::MOST_STATES, h.states, b'0', b'1', b'1') {
-        return false;
-    }
-    if !read_fields::is_sized(next, rules::MOST_STATES, h.states, b'0', b'1', b'1') {
-        return false;
-    }
-    read_fields::is_sized(outputs, rules::MOST_OUTPUTS, h.outputs, b'0', b'1', b'-')
-}
-
-// The row of four fields.
-fn row_of(line: usize, input: &[u8], group: &[u8], next: &[u8], outputs: &[u8]) -> Row
-    ensures { λ r. ⌜ r ≡ rowWithin line (now (input .entry)) (now (group .entry)) (now (next .entry)) (now (outputs .entry)) ⌝ }
-{
-    Row {
-        input: read_fields::pattern_of(input),
-        group: read_fields::set_of(group, b'1'),
-        next: read_fields::set_of(next, b'1'),
-        outputs: read_fields::pattern_of(outputs),
-        line: line,
-    }
-}
 
 // A row whose characters are in order, behind `count` others.
 fn row_checked(count: usize, row: Row) -> RowLine
@@ -54,19 +29,85 @@ fn row_checked(count: usize, row: Row) -> RowLine
     RowLine::Read(row)
 }
 
+// The row of four fields.
+fn row_read(
+    h: Head,
+    count: usize,
+    line: usize,
+    input: &[u8],
+    group: &[u8],
+    next: &[u8],
+    outputs: &[u8],
+) -> RowLine
+    ensures { λ r. ⌜ r ≡ rowRead h count line (now (input .entry)) (now (group .entry)) (now (next .entry)) (now (outputs .entry)) ⌝ }
+{
+    let PatternField::Read(asked) = read_fields::pattern_in(input, rules::MOST_INPUTS, h.inputs) else {
+        return RowLine::Refused(Refusal::BadLine);
+    };
+    let Places::Read(states, _) = read_fields::places_in(
+        group,
+        rules::MOST_STATES,
+        h.states,
+        b'0',
+        b'1',
+        b'1',
+    ) else {
+        return RowLine::Refused(Refusal::BadLine);
+    };
+    let Places::Read(named, _) = read_fields::places_in(
+        next,
+        rules::MOST_STATES,
+        h.states,
+        b'0',
+        b'1',
+        b'1',
+    ) else {
+        return RowLine::Refused(Refusal::BadLine);
+    };
+    let PatternField::Read(given) = read_fields::pattern_in(outputs, rules::MOST_OUTPUTS, h.outputs)
+    else {
+        return RowLine::Refused(Refusal::BadLine);
+    };
+    row_checked(
+        count,
+        Row {
+            input: asked,
+            group: states,
+            next: named,
+            outputs: given,
+            line: line,
+        },
+    )
+}
+
+// What stands behind the mark and its space: each field but the last has a space behind it, at the place that the head gives it.
+fn row_rest(h: Head, count: usize, line: usize, t: &[u8]) -> RowLine
+    ensures { λ r. ⌜ r ≡ rowRest h count line (now (t .entry)) ⌝ }
+{
+    if !stands_at(t, h.inputs, b' ') {
+        return RowLine::Refused(Refusal::BadLine);
+    }
+    let u = behind(t, h.inputs);
+    if !stands_at(u, h.states, b' ') {
+        return RowLine::Refused(Refusal::BadLine);
+    }
+    let v = behind(u, h.states);
+    if !stands_at(v, h.states, b' ') {
+        return RowLine::Refused(Refusal::BadLine);
+    }
+    let input = first_of(t, h.inputs);
+    let group = first_of(u, h.states);
+    let next = first_of(v, h.states);
+    row_read(h, count, line, input, group, next, behind(v, h.states))
+}
+
 // What a `PT` line says, as line number `line` and behind `count` rows.
 pub fn row_line(h: Head, count: usize, line: usize, l: &[u8]) -> RowLine
     ensures { λ r. ⌜ r ≡ rowLine h count line (now (l .entry)) ⌝ }
 {
-    if field_count(l) != 5 {
+    let mark = cut(l, 0, b' ');
+    if l.len() <= mark {
         return RowLine::Refused(Refusal::BadLine);
     }
-    let input = field(l, 1);
-    let group = field(l, 2);
-    let next = field(l, 3);
-    let outputs = field(l, 4);
-    if !row_fits(h, input, group, next, outputs) {
-        return RowLine::Refused(Refusal::BadLine);
-    }
-    row_checked(count, row_of(line, input, group, next, outputs))
+    row_rest(h, count, line, behind(l, mark))
 }

@@ -9,7 +9,7 @@ use native.Mathlib.Omega.{arith}
 use lib.ListN.{length, getD, take, drop, length-drop, drop-of-length-le}
 use lib.Seq.{drop-drop}
 use lib.Dec.{eqb}
-use borrow.Author.Tests.{eq-eqb, ne-eqb}
+use borrow.Author.Tests.{eqb-true, eq-eqb, ne-eqb}
 use Rattle.rules.specs.Text.{push, split}
 use Rattle.read_fields.proofs.Characters.{drop-one}
 use Rattle.read_pieces.specs.Pieces.{endOf}
@@ -39,29 +39,30 @@ end-past q l i h = rw (drop-of-length-le l {i = i}) (omega arith)
 -- ---- the first piece, and the pieces behind it
 
 -- the pieces of l, of which the first has n bytes
-record First (q : ℕ) (l : List ℕ) (ps : List (List ℕ)) (n : ℕ) : Type 0 where
-  some : 1 ≤ length ps
-  to : n ≤ length l
-  more : n < length l → ps ≡ take n l ∷ split q (drop (suc n) l)
-  last : length l ≤ n → ps ≡ take n l ∷ []
+pub record First (q : ℕ) (l : List ℕ) (ps : List (List ℕ)) (n : ℕ) : Type 0 where
+  pub some : 1 ≤ length ps
+  pub to : n ≤ length l
+  pub stop : n < length l → getD l n 0 ≡ q
+  pub more : n < length l → ps ≡ take n l ∷ split q (drop (suc n) l)
+  pub last : length l ≤ n → ps ≡ take n l ∷ []
 
-first-cut : (q x : ℕ) (l : List ℕ) → First q (x ∷ l) ([] ∷ split q l) 0
-first-cut q x l = record { some = omega arith; to = omega arith; more = λ h. refl; last = λ h. absurd (omega arith) }
+first-cut : (q x : ℕ) (l : List ℕ) → x ≡ q → First q (x ∷ l) ([] ∷ split q l) 0
+first-cut q x l e = record { some = omega arith; to = omega arith; stop = λ h. e; more = λ h. refl; last = λ h. absurd (omega arith) }
 
 first-push : (q x : ℕ) (l : List ℕ) (ps : List (List ℕ)) → First q l ps (length (getD ps 0 [])) → First q (x ∷ l) (push x ps) (length (getD (push x ps) 0 []))
 first-push q x l [] f = absurd (omega arith)
 first-push q x l (p ∷ ps) f =
-    record { some = omega arith; to = omega arith; more = λ h. ap (push x) (f .more (omega arith)); last = λ h. ap (push x) (f .last (omega arith)) }
+    record { some = omega arith; to = omega arith; stop = λ h. f .stop (omega arith); more = λ h. ap (push x) (f .more (omega arith)); last = λ h. ap (push x) (f .last (omega arith)) }
 
-first-cond : (q x : ℕ) (l : List ℕ) (t : Bool) → First q l (split q l) (length (getD (split q l) 0 []))
+first-cond : (q x : ℕ) (l : List ℕ) (t : Bool) → eqb x q ≡ t → First q l (split q l) (length (getD (split q l) 0 []))
     → First q (x ∷ l) (cond t ([] ∷ split q l) (push x (split q l))) (length (getD (cond t ([] ∷ split q l) (push x (split q l))) 0 []))
-first-cond q x l true f = first-cut q x l
-first-cond q x l false f = first-push q x l (split q l) f
+first-cond q x l true e f = first-cut q x l (eqb-true x q e)
+first-cond q x l false e f = first-push q x l (split q l) f
 
-first-of : (q : ℕ) (l : List ℕ) → First q l (split q l) (length (getD (split q l) 0 []))
+pub first-of : (q : ℕ) (l : List ℕ) → First q l (split q l) (length (getD (split q l) 0 []))
 unfolding split
-first-of q [] = record { some = omega arith; to = omega arith; more = λ h. absurd (omega arith); last = λ h. refl }
-first-of q (x ∷ xs) = first-cond q x xs (eqb x q) (first-of q xs)
+first-of q [] = record { some = omega arith; to = omega arith; stop = λ h. absurd (omega arith); more = λ h. absurd (omega arith); last = λ h. refl }
+first-of q (x ∷ xs) = first-cond q x xs (eqb x q) refl (first-of q xs)
 
 -- there is always a piece
 pub split-some : (q : ℕ) (l : List ℕ) → 1 ≤ length (split q l)

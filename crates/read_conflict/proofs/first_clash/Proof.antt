@@ -22,14 +22,14 @@ Inv-pairs t n found₀ i₀ found i = (length (rowsOf t) ≡ n) × (n ≤ 128) �
 abbrev μ-pairs : tie.MeasureT-pairs
 μ-pairs t n found₀ i₀ found i = n - i
 
-within-table-requires : tie.Need-within-table-requires Inv-loop μ-loop Inv-pairs μ-pairs
-within-table-requires c κs = search needs
+least-requires : tie.Need-least-requires Inv-loop μ-loop Inv-pairs μ-pairs
+least-requires c κs = search needs
 
 pairs-holds : tie.Need-pairs-holds Inv-loop μ-loop Inv-pairs μ-pairs
 pairs-holds c =
     let t = c .before .args .t1 in
     let l : length (t .table) ≡ 128 = sym (length-map (t .table) _) ∙ c .before .good .0 .1 .1 .1 .1 .0 .1 .0 .1 in
-    (omega (arith, length-take (t .rows) (t .table), c .within-table .ensures), omega arith, omega arith, refl, refl)
+    (omega (arith, length-take (t .rows) (t .table), c .least .ensures), omega arith, omega arith, refl, refl)
 
 mul-a : tie.Need-mul-a Inv-loop μ-loop Inv-pairs μ-pairs
 mul-a c = search needs
@@ -101,7 +101,7 @@ first-clash-spec =
     μ-loop
     Inv-pairs
     μ-pairs
-    within-table-requires
+    least-requires
     pairs-holds
     mul-a
     element-copy-out-a
