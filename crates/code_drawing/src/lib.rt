@@ -8,7 +8,7 @@ ghost use lib.ListN.{length, take};
 ghost use Rattle.sets.specs.Sets.{size};
 ghost use Rattle.rules.specs.Limits.{most-states, most-rows, most-dichotomies};
 ghost use Rattle.rules.specs.Listing.{rowsOf, dichotomiesOf};
-ghost use Rattle.code_drawing.specs.Drawing.{standsIn, family, withGroup, withGroups, dichotomyWords, pairsOf, groupFamilies, familiesOf, firstFamilies, allFamilies, Drew};
+ghost use Rattle.code_drawing.specs.Drawing.{standsIn, family, withGroup, withGroups, dichotomyWords, pairsOf, familiesOf, firstFamilies, allFamilies, Drew};
 use rules::Listing;
 
 // Room for the families of the most rows and the most dichotomies, and with those of the pairs.
@@ -120,15 +120,8 @@ fn draw_pairs(n: usize, fs: &mut [u64]) -> usize
     k
 }
 
-// The families of a listing's groups, of any Listing value: where it counts more rows than there are places for, those that have places.
-// The answer is how many words they take.
-pub fn draw_groups(t: Listing, fs: &mut [u64; WORDS]) -> usize
-    ensures { λ r. ⌜ Drew (now (fs .entry)) (groupFamilies t) r (now (fs .exit)) ⌝ }
-{
-    draw_rows(t, fs, 0)
-}
-
-// The families of a listing's groups and dichotomies.
+// The families of a listing's groups and dichotomies, of any Listing value: where it counts more rows than there are places for, those that
+// have places. The answer is how many words they take.
 pub fn draw(t: Listing, fs: &mut [u64; WORDS]) -> usize
     ensures { λ r. ⌜ Drew (now (fs .entry)) (familiesOf t) r (now (fs .exit)) ⌝ }
 {
@@ -143,13 +136,6 @@ fn draw_before(t: Listing, fs: &mut [u64]) -> usize
 {
     let k = draw_pairs(sets::least(t.head.states, rules::MOST_STATES), fs);
     draw_rows(t, fs, k)
-}
-
-// The families of a listing's pairs and groups.
-pub fn draw_first(t: Listing, fs: &mut [u64; ALL_WORDS]) -> usize
-    ensures { λ r. ⌜ Drew (now (fs .entry)) (firstFamilies t) r (now (fs .exit)) ⌝ }
-{
-    draw_before(t, fs)
 }
 
 // The families of all that a listing asks.

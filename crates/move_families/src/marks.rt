@@ -32,7 +32,7 @@ pub fn sway_run(run: &[u64], b: u64, s: usize, t: &mut [u32]) -> usize
     let mut looks: usize = 0;
     while marks != 0 {
         let i = 3 * sets::lowest(marks);
-        let one = move_halves::move_near(run[i], run[i + 1], run[i + 2], b, s, t);
+        let one = move_halves::move_family(run[i], run[i + 1], run[i + 2], b, s, t);
         looks = std::num::wrapping_add_usize(looks, one);
         marks = sets::without_lowest(marks);
     }

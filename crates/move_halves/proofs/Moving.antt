@@ -58,22 +58,24 @@ as-number false true false = refl
 as-number false false false = refl
 
 module _ (all flip out b s : ℕ) (t : List ℕ) where
+  -- the family has not the state
+  pub move-missing : has all s ≡ 0 → has out s ≡ 0 → (looksOf all flip out b s ≡ 0) × (swayed all flip out b s t ≡ t)
+  unfolding looksOf swayed
+  move-missing e f =
+      let p : eqb (has all s) 1 ≡ false = ne-eqb (has all s) 1 (λ d. omega arith) in
+      let q : eqb (has (without out all) s) 1 ≡ false = ne-eqb (has (without out all) s) 1 (λ d. omega (arith, has-rest out all s)) in
+      (rw (p, q) refl, rw (p, q) refl)
+
   -- the family has not the state, or is far without it
   pub move-passed : nearAt all flip out b s ≡ false → (looksOf all flip out b s ≡ 0) × (swayed all flip out b s t ≡ t)
-  unfolding nearAt looksOf swayed
+  unfolding nearAt
   move-passed far = go (eqb (has (bitOr all out) s) 1) refl far
     where
-      missing : eqb (has (bitOr all out) s) 1 ≡ false → (looksOf all flip out b s ≡ 0) × (swayed all flip out b s t ≡ t)
-      missing h =
-          let o = eqb-false (has (bitOr all out) s) 1 h in
-          let e : has (bitOr all out) s ≡ 0 = omega (arith, has-lt (bitOr all out) s) in
-          let p : eqb (has all s) 1 ≡ false = ne-eqb (has all s) 1 (λ d. omega (arith, has-or all out s)) in
-          let q : eqb (has (without out all) s) 1 ≡ false = ne-eqb (has (without out all) s) 1 (λ d. omega (arith, has-or all out s, has-rest out all s)) in
-          (rw (p, q) refl, rw (p, q) refl)
-
       go : (u : Bool) → eqb (has (bitOr all out) s) 1 ≡ u → (u && nearBut all flip b s) ≡ false → (looksOf all flip out b s ≡ 0) × (swayed all flip out b s t ≡ t)
       go true h e = (looks-far all flip out b s e, swayed-far all flip out b s e t)
-      go false h e = missing h
+      go false h e =
+          let o = eqb-false (has (bitOr all out) s) 1 h in
+          move-missing (omega (arith, has-lt (bitOr all out) s, has-or all out s)) (omega (arith, has-lt (bitOr all out) s, has-or all out s))
 
   -- the mark of a family, from what code finds on the way
   pub by-mark : (p q u : Bool) → u ≡ eqb (has (bitOr all out) s) 1 → (has (bitOr all out) s ≡ 1 → (p || q) ≡ nearAt all flip out b s)
@@ -81,15 +83,6 @@ module _ (all flip out b s : ℕ) (t : List ℕ) where
   unfolding nearAt
   by-mark p q true e h = as-number p q true ∙ ap (λ (x : Bool). cond x 1 0) (h (eqb-true (has (bitOr all out) s) 1 (sym e)))
   by-mark p q false e h = as-number p q false ∙ ap (λ (x : Bool). cond (x && nearBut all flip b s) 1 0) e
-
-  -- what it says of a family that is not passed over
-  pub near-has : nearAt all flip out b s ≡ true → (has (bitOr all out) s ≡ 1) × (nearBut all flip b s ≡ true)
-  unfolding nearAt
-  near-has near = go (eqb (has (bitOr all out) s) 1) refl near
-    where
-      go : (u : Bool) → eqb (has (bitOr all out) s) 1 ≡ u → (u && nearBut all flip b s) ≡ true → (has (bitOr all out) s ≡ 1) × (nearBut all flip b s ≡ true)
-      go true h e = (eqb-true (has (bitOr all out) s) 1 h, e)
-      go false h e = absurd (omega (arith, ap {B = ℕ} (λ (u : Bool). cond u 1 0) e))
 
   -- a member in common
   pub move-common : has all s ≡ 1
@@ -101,16 +94,15 @@ module _ (all flip out b s : ℕ) (t : List ℕ) where
   move-common e = (rw (eq-eqb (has all s) 1 e) refl, rw (eq-eqb (has all s) 1 e) refl)
 
   -- a state outside
-  pub move-outside : has (bitOr all out) s ≡ 1 → has all s ≡ 0 → nearBut all flip b s ≡ true
-      → (looksOf all flip out b s ≡ 1)
+  pub move-outside : has out s ≡ 1 → has all s ≡ 0
+      → (looksOf all flip out b s ≡ cond (nearBut all flip b s) 1 0)
       × (swayed all flip out b s t
       ≡ halved (not (not (eqb (has b s) 1))) 1 all (backBut all flip b s) (only s) 0 (halved (not (eqb (has b s) 1)) 1 all (sideBut all flip b s) (only s) 0 t))
   unfolding looksOf swayed swayedOut
-  move-outside e f near =
+  move-outside e f =
       let p : eqb (has all s) 1 ≡ false = ne-eqb (has all s) 1 (λ d. omega arith) in
-      let i : has out s ≡ 1 = omega (arith, has-or all out s) in
       let q : eqb (has (without out all) s) 1 ≡ true = eq-eqb (has (without out all) s) 1 (omega (arith, has-rest out all s)) in
-      (rw (p, q, near) refl, rw (p, q) refl)
+      (rw (p, q) refl, rw (p, q) refl)
 
   -- the same, of what code has on the way
   module _ (others x : ℕ) (eo : others ≡ without all (only s)) (ex : x ≡ side others flip b) where
@@ -141,13 +133,16 @@ module _ (all flip out b s : ℕ) (t : List ℕ) where
           ∙ sym (move-common e .1),
     )
 
-    pub by-outside : (u : Bool) (own : ℕ) (t′ : List ℕ) → has (bitOr all out) s ≡ 1 → has all s ≡ 0 → nearBut all flip b s ≡ true → u ≡ eqb (has b s) 1 → own ≡ only s
+    pub by-outside : (u near : Bool) (own r : ℕ) (t′ : List ℕ) → has out s ≡ 1 → has all s ≡ 0 → u ≡ eqb (has b s) 1 → own ≡ only s
+        → near ≡ (leb (size x) 1 || leb (size (bitXor others x)) 1) → r ≡ cond near 1 0
         → t′ ≡ halved (not (not u)) 1 all (bitXor others x) own 0 (halved (not u) 1 all x own 0 t)
-        → (1 ≡ looksOf all flip out b s) × (t′ ≡ swayed all flip out b s t)
-    by-outside u own t′ e f near p q h = (
-      sym (move-outside e f near .0),
+        → (r ≡ looksOf all flip out b s) × (t′ ≡ swayed all flip out b s t)
+    by-outside u near own r t′ e f p q en er h = (
+      er
+          ∙ ap (λ (w : Bool). cond w 1 0) (en ∙ ap₂ (λ (k j : ℕ). leb (size k) 1 || leb (size j) 1) ex′ ey)
+          ∙ sym (move-outside e f .0),
       h
           ∙ ap₂ (λ (k j : ℕ). halved (not (not u)) 1 all j own 0 (halved (not u) 1 all k own 0 t)) ex′ ey
           ∙ ap₂ (λ (u : Bool) (own : ℕ). halved (not (not u)) 1 all (backBut all flip b s) own 0 (halved (not u) 1 all (sideBut all flip b s) own 0 t)) p q
-          ∙ sym (move-outside e f near .1),
+          ∙ sym (move-outside e f .1),
     )

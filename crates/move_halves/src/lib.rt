@@ -125,9 +125,9 @@ pub fn mark_of(all: u64, flip: u64, out: u64, b: u64, s: usize) -> u64
     near & (((all | out) & own != 0) as u64)
 }
 
-// The move of s at the bit b, for one family that it can touch: its looks, and the table with its changes, the moved state's own change by half.
-pub fn move_near(all: u64, flip: u64, out: u64, b: u64, s: usize, t: &mut [u32]) -> usize
-    ensures { λ r. ⌜ (nearAt all flip out b s ≡ true → (r ≡ looksOf all flip out b s) × (now (t .exit) ≡ swayed all flip out b s (now (t .entry)))) ⌝ }
+// The move of s at the bit b, for one family: its looks, and the table with its changes, the moved state's own change by half.
+pub fn move_family(all: u64, flip: u64, out: u64, b: u64, s: usize, t: &mut [u32]) -> usize
+    ensures { λ r. ⌜ (r ≡ looksOf all flip out b s) × (now (t .exit) ≡ swayed all flip out b s (now (t .entry))) ⌝ }
 {
     let own = sets::flipped(0, s);
     let others = families::without_of(all, own);
@@ -147,6 +147,9 @@ pub fn move_near(all: u64, flip: u64, out: u64, b: u64, s: usize, t: &mut [u32])
             t,
         );
     }
+    if !sets::member(out, s) {
+        return 0;
+    }
     move_out(!sets::member(b, s), all, x, y, own, t);
-    1
+    counted(near_of(x, y), 1)
 }

@@ -41,7 +41,8 @@ fn row_read(
 ) -> RowLine
     ensures { λ r. ⌜ r ≡ rowRead h count line (now (input .entry)) (now (group .entry)) (now (next .entry)) (now (outputs .entry)) ⌝ }
 {
-    let PatternField::Read(asked) = read_fields::pattern_in(input, rules::MOST_INPUTS, h.inputs) else {
+    let PatternField::Read(asked) = read_fields::pattern_in(input, rules::MOST_INPUTS, h.inputs)
+    else {
         return RowLine::Refused(Refusal::BadLine);
     };
     let Places::Read(states, _) = read_fields::places_in(

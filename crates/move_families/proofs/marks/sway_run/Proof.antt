@@ -18,7 +18,7 @@ use Rattle.move_families.proofs.marks.sway_run.Tie as tie
 use Rattle.move_families.proofs.marks.sway_run.Reads as reads
 use Rattle.move_families.proofs.marks.sway_run.Lts as lts
 use Rattle.move_families.proofs.marks.marks_of.Reads as marks-of-reads
-use Rattle.move_halves.proofs.move_near.Reads as move-near-reads
+use Rattle.move_halves.proofs.move_family.Reads as move-family-reads
 use Rattle.sets.proofs.lowest.Reads as lowest-reads
 use Rattle.sets.proofs.without_lowest.Reads as without-lowest-reads
 use Rattle.std.proofs.num.wrapping_add_usize.Reads as wrapping-add-usize-reads
@@ -54,40 +54,40 @@ mul-i : tie.Need-mul-i Inv-loop μ-loop
 mul-i c =
     let h = lowest-near c .0 in record { fits = omega (arith, h, c .before .before .before .before .before .before .pre) }
 
-mul-move-near : tie.Need-mul-move-near Inv-loop μ-loop
-mul-move-near c =
+mul-move-family : tie.Need-mul-move-family Inv-loop μ-loop
+mul-move-family c =
     let h = lowest-near c .0 in record { fits = omega (arith, h, c .before .before .before .before .before .before .pre) }
 
-shared-slice-read-move-near : tie.Need-shared-slice-read-move-near Inv-loop μ-loop
-shared-slice-read-move-near c =
+shared-slice-read-move-family : tie.Need-shared-slice-read-move-family Inv-loop μ-loop
+shared-slice-read-move-family c =
     omega (arith, lowest-near (c .before) .0)
 
-add-move-near : tie.Need-add-move-near Inv-loop μ-loop
-add-move-near c =
+add-move-family : tie.Need-add-move-family Inv-loop μ-loop
+add-move-family c =
     let h = lowest-near (c .before) .0 in record { fits = omega (arith, h, c .before .before .before .before .before .before .before .pre) }
 
-mul-move-near-2 : tie.Need-mul-move-near-2 Inv-loop μ-loop
-mul-move-near-2 c =
+mul-move-family-2 : tie.Need-mul-move-family-2 Inv-loop μ-loop
+mul-move-family-2 c =
     let h = lowest-near (c .before) .0 in record { fits = omega (arith, h, c .before .before .before .before .before .before .before .pre) }
 
-shared-slice-read-move-near-2 : tie.Need-shared-slice-read-move-near-2 Inv-loop μ-loop
-shared-slice-read-move-near-2 c =
+shared-slice-read-move-family-2 : tie.Need-shared-slice-read-move-family-2 Inv-loop μ-loop
+shared-slice-read-move-family-2 c =
     omega (arith, lowest-near (c .before .before) .0)
 
-add-move-near-2 : tie.Need-add-move-near-2 Inv-loop μ-loop
-add-move-near-2 c =
+add-move-family-2 : tie.Need-add-move-family-2 Inv-loop μ-loop
+add-move-family-2 c =
     let h = lowest-near (c .before .before) .0 in record { fits = omega (arith, h, c .before .before .before .before .before .before .before .before .pre) }
 
-mul-move-near-3 : tie.Need-mul-move-near-3 Inv-loop μ-loop
-mul-move-near-3 c =
+mul-move-family-3 : tie.Need-mul-move-family-3 Inv-loop μ-loop
+mul-move-family-3 c =
     let h = lowest-near (c .before .before) .0 in record { fits = omega (arith, h, c .before .before .before .before .before .before .before .before .pre) }
 
-shared-slice-read-move-near-3 : tie.Need-shared-slice-read-move-near-3 Inv-loop μ-loop
-shared-slice-read-move-near-3 c =
+shared-slice-read-move-family-3 : tie.Need-shared-slice-read-move-family-3 Inv-loop μ-loop
+shared-slice-read-move-family-3 c =
     omega (arith, lowest-near (c .before .before .before) .0)
 
-move-near-requires : tie.Need-move-near-requires Inv-loop μ-loop
-move-near-requires c κs =
+move-family-requires : tie.Need-move-family-requires Inv-loop μ-loop
+move-family-requires c κs =
     search needs
 
 wrapping-add-usize-requires : tie.Need-wrapping-add-usize-requires Inv-loop μ-loop
@@ -110,7 +110,7 @@ loop-again c =
     let w = c .before .before .before .before .before .before .before .before .before in
     let a = w .before .before .before .before .before .before .args in
     let l = w .before .before .loop in
-    (marked-turn (a .run .now) (a .b) (a .s) (a .t .now) (l .t) (l .looks) (l .marks) _ (l .inv .0) (w .before .loop-test .taken) (w .lowest .ensures) _ _ _ _ (c .before .before .before .before .move-near .ensures (lowest-near w .1)) (c .before .wrapping-add-usize .ensures) (c .without-lowest .ensures), c .before .before .before .before .move-near .kept .1 .1 .1 .1 .1 .0 ∙ l .inv .1)
+    (marked-turn (a .run .now) (a .b) (a .s) (a .t .now) (l .t) (l .looks) (l .marks) _ (l .inv .0) (w .before .loop-test .taken) (w .lowest .ensures) _ _ _ _ (c .before .before .before .before .move-family .ensures) (c .before .wrapping-add-usize .ensures) (c .without-lowest .ensures), c .before .before .before .before .move-family .kept .1 .1 .1 .1 .1 .0 ∙ l .inv .1)
 
 same-length : tie.Need-same-length Inv-loop μ-loop
 same-length c =
@@ -132,15 +132,15 @@ sway-run-spec =
     loop-holds
     lowest-requires
     mul-i
-    mul-move-near
-    shared-slice-read-move-near
-    add-move-near
-    mul-move-near-2
-    shared-slice-read-move-near-2
-    add-move-near-2
-    mul-move-near-3
-    shared-slice-read-move-near-3
-    move-near-requires
+    mul-move-family
+    shared-slice-read-move-family
+    add-move-family
+    mul-move-family-2
+    shared-slice-read-move-family-2
+    add-move-family-2
+    mul-move-family-3
+    shared-slice-read-move-family-3
+    move-family-requires
     wrapping-add-usize-requires
     without-lowest-requires
     loop-less
