@@ -9,6 +9,7 @@
 const struct bench_plan bench_plans[] = {
     {BENCH_RANDOM, 4, 0, 0},     {BENCH_RANDOM, 4, 8, 0},     {BENCH_RANDOM, 4, 8, 8},     {BENCH_RANDOM, 4, 128, 64},
     {BENCH_RANDOM, 8, 0, 0},     {BENCH_RANDOM, 8, 8, 0},     {BENCH_RANDOM, 8, 32, 0},    {BENCH_RANDOM, 8, 32, 16},
+    {BENCH_RANDOM, 8, 64, 0},    {BENCH_RANDOM, 8, 128, 0},
     {BENCH_RANDOM, 8, 128, 64},  {BENCH_RANDOM, 16, 0, 0},    {BENCH_RANDOM, 16, 8, 0},    {BENCH_RANDOM, 16, 32, 0},
     {BENCH_RANDOM, 16, 32, 16},  {BENCH_RANDOM, 16, 64, 0},   {BENCH_RANDOM, 16, 128, 0},  {BENCH_RANDOM, 16, 128, 64},
     {BENCH_RANDOM, 24, 0, 0},    {BENCH_RANDOM, 24, 8, 0},    {BENCH_RANDOM, 24, 32, 0},   {BENCH_RANDOM, 24, 64, 16},

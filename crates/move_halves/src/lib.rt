@@ -15,6 +15,16 @@ fn counted(yes: bool, many: u32) -> usize
     0
 }
 
+// How many states there are, if they count: they are counted only then.
+fn states_of(yes: bool, m: u64) -> usize
+    ensures { λ r. ⌜ r ≡ cond yes (size m) 0 ⌝ }
+{
+    if yes {
+        return sets::size_of(m) as usize;
+    }
+    0
+}
+
 // x to be put on, or to be taken off, modulo 2 ^ 32.
 fn signed_of(on: bool, x: u32) -> u32
     ensures { λ r. ⌜ r ≡ signed on x ⌝ }
@@ -55,6 +65,15 @@ pub fn put_half(on: bool, w: u32, all: u64, side: u64, right: u64, rest: u64, t:
     }
 }
 
+// The shares of a half, by the states outside, which are counted only where it has shares.
+fn put_worth(on: bool, out: u64, all: u64, side: u64, right: u64, rest: u64, t: &mut [u32])
+    ensures { λ r. ⌜ now (t .exit) ≡ halved on (worth out right) all side right rest (now (t .entry)) ⌝ }
+{
+    if sets::few(side) {
+        put_half(on, worth_of(out, right), all, side, right, rest, t);
+    }
+}
+
 // Whether at most one must change, one way round or the other.
 fn near_of(x: u64, y: u64) -> bool
     ensures { λ r. ⌜ r ≡ (leb (size x) 1 || leb (size y) 1) ⌝ }
@@ -82,8 +101,8 @@ fn looks_by(out: u64, x: u64, y: u64, right: u64, rest: u64) -> usize
     if out == 0 {
         return counted(near_of(x, y), 1);
     }
-    let one = counted(seen_of(x, y), sets::size_of(right));
-    let other = counted(seen_of(y, x), sets::size_of(rest));
+    let one = states_of(seen_of(x, y), right);
+    let other = states_of(seen_of(y, x), rest);
     one + other
 }
 
@@ -100,8 +119,8 @@ fn move_in(
 ) -> usize
     ensures { λ r. ⌜ (r ≡ looksBy out (size x) (size y) right rest) × (now (t .exit) ≡ halved (not on) (worth out rest) all y rest right (halved on (worth out right) all x right rest (now (t .entry)))) ⌝ }
 {
-    put_half(on, worth_of(out, right), all, x, right, rest, t);
-    put_half(!on, worth_of(out, rest), all, y, rest, right, t);
+    put_worth(on, out, all, x, right, rest, t);
+    put_worth(!on, out, all, y, rest, right, t);
     looks_by(out, x, y, right, rest)
 }
 

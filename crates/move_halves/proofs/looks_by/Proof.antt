@@ -1,6 +1,7 @@
 -- `move_halves::looks_by` meets its contract.
 use mathlib.Core.Path.{ap₂}
 use mathlib.Core.Bool.{cond}
+use Rattle.sets.specs.Sets.{size}
 use Rattle.sets.proofs.SizeMembers.{size-few}
 use Rattle.move_halves.specs.Halves.{looksBy}
 use Prim.Native.Nat.{ℕ, zero, suc, _≤_, _<_, _-_, _+_, _*_, _^_}
@@ -21,7 +22,7 @@ use Rattle.move_halves.proofs.looks_by.Lts as lts
 use Rattle.move_halves.proofs.counted.Reads as counted-reads
 use Rattle.move_halves.proofs.near_of.Reads as near-of-reads
 use Rattle.move_halves.proofs.seen_of.Reads as seen-of-reads
-use Rattle.sets.proofs.size_of.Reads as size-of-reads
+use Rattle.move_halves.proofs.states_of.Reads as states-of-reads
 
 at-most : (t : Bool) (m : ℕ) → cond t m 0 ≤ m
 at-most true m = omega arith
@@ -41,34 +42,26 @@ returns c =
 seen-of-requires : tie.Need-seen-of-requires
 seen-of-requires c κs = search needs
 
-size-of-requires : tie.Need-size-of-requires
-size-of-requires c κs = search needs
-
-counted-requires-2 : tie.Need-counted-requires-2
-counted-requires-2 c κs = search needs
+states-of-requires : tie.Need-states-of-requires
+states-of-requires c κs = search needs
 
 seen-of-requires-2 : tie.Need-seen-of-requires-2
 seen-of-requires-2 c κs = search needs
 
-size-of-requires-2 : tie.Need-size-of-requires-2
-size-of-requires-2 c κs = search needs
-
-counted-requires-3 : tie.Need-counted-requires-3
-counted-requires-3 c κs = search needs
+states-of-requires-2 : tie.Need-states-of-requires-2
+states-of-requires-2 c κs = search needs
 
 add-result : tie.Need-add-result
 add-result c =
-    let s = c .before .before .before .before .before .before .before in
+    let s = c .before .before .before .before .before in
     record {
       fits = omega (
         arith,
-        c .before .before .before .counted2 .ensures,
-        at-most (c .before .before .before .before .before .seen-of .result) (c .before .before .before .before .size-of .result),
-        c .before .before .before .before .size-of .ensures,
+        c .before .before .states-of .ensures,
+        at-most (c .before .before .before .seen-of .result) (size (s .args .right)),
         size-few 64 (s .args .right) (s .fits .right .fits),
-        c .counted3 .ensures,
-        at-most (c .before .before .seen-of2 .result) (c .before .size-of2 .result),
-        c .before .size-of2 .ensures,
+        c .states-of2 .ensures,
+        at-most (c .before .seen-of2 .result) (size (s .args .rest)),
         size-few 64 (s .args .rest) (s .fits .rest .fits),
       );
     }
@@ -76,10 +69,11 @@ add-result c =
 returns-2 : tie.Need-returns-2
 unfolding looksBy
 returns-2 c =
-    rw (ne-eqb (c .before .before .before .before .before .before .before .args .out) 0 (c .before .before .before .before .before .before .if1 .left))
+    let s = c .before .before .before .before .before in
+    rw (ne-eqb (s .args .out) 0 (c .before .before .before .before .if1 .left))
     (ap₂ (λ (k j : ℕ). k + j)
-    (c .before .before .before .counted2 .ensures ∙ ap₂ (λ (t : Bool) (m : ℕ). cond t m 0) (c .before .before .before .before .before .seen-of .ensures) (c .before .before .before .before .size-of .ensures))
-    (c .counted3 .ensures ∙ ap₂ (λ (t : Bool) (m : ℕ). cond t m 0) (c .before .before .seen-of2 .ensures) (c .before .size-of2 .ensures)))
+    (c .before .before .states-of .ensures ∙ ap (λ (t : Bool). cond t (size (s .args .right)) 0) (c .before .before .before .seen-of .ensures))
+    (c .states-of2 .ensures ∙ ap (λ (t : Bool). cond t (size (s .args .rest)) 0) (c .before .seen-of2 .ensures)))
 
 pub looks-by-spec : {M : Type 1} → statement M
 looks-by-spec =
@@ -89,10 +83,8 @@ looks-by-spec =
     counted-requires
     returns
     seen-of-requires
-    size-of-requires
-    counted-requires-2
+    states-of-requires
     seen-of-requires-2
-    size-of-requires-2
-    counted-requires-3
+    states-of-requires-2
     add-result
     returns-2)

@@ -15,20 +15,13 @@ use Rattle.move_halves.proofs.move_in.Tie as tie
 use Rattle.move_halves.proofs.move_in.Reads as reads
 use Rattle.move_halves.proofs.move_in.Lts as lts
 use Rattle.move_halves.proofs.looks_by.Reads as looks-by-reads
-use Rattle.move_halves.proofs.put_half.Reads as put-half-reads
-use Rattle.move_halves.proofs.worth_of.Reads as worth-of-reads
+use Rattle.move_halves.proofs.put_worth.Reads as put-worth-reads
 
-worth-of-requires : tie.Need-worth-of-requires
-worth-of-requires c κs = search needs
+put-worth-requires : tie.Need-put-worth-requires
+put-worth-requires c κs = search needs
 
-put-half-requires : tie.Need-put-half-requires
-put-half-requires c κs = search needs
-
-worth-of-requires-2 : tie.Need-worth-of-requires-2
-worth-of-requires-2 c κs = search needs
-
-put-half-requires-2 : tie.Need-put-half-requires-2
-put-half-requires-2 c κs = search needs
+put-worth-requires-2 : tie.Need-put-worth-requires-2
+put-worth-requires-2 c κs = search needs
 
 looks-by-requires : tie.Need-looks-by-requires
 looks-by-requires c κs = search needs
@@ -44,10 +37,8 @@ pub move-in-spec : {M : Type 1} → statement M
 move-in-spec =
     tie.close
     (tie.spec
-    worth-of-requires
-    put-half-requires
-    worth-of-requires-2
-    put-half-requires-2
+    put-worth-requires
+    put-worth-requires-2
     looks-by-requires
     same-length
     returns)
