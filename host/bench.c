@@ -200,14 +200,19 @@ static void print_row(unsigned at)
     print_timing(&timing);
 }
 
-/* The stack of each encoder on the last plan, the hardest. */
-static void print_stack(void)
+static void print_stack(const char *name, encoder *call, const struct bench_listing *listing)
+{
+    printf("stack %s %lu\n", name, stack_depth(call, listing->bytes, listing->length, out[0], SECOND_TEXT));
+}
+
+/* The stack of each encoder's report on the last plan, the hardest, and of the library's cover. */
+static void print_stacks(void)
 {
     static struct bench_listing listing;
     bench_draw(SEED, bench_plans_number - 1, &listing);
     for (unsigned which = 0; which < ENCODERS; which++)
-        printf("stack %s %lu\n", names[which],
-               stack_depth(encoders[which], listing.bytes, listing.length, out[0], SECOND_TEXT));
+        print_stack(names[which], encoders[which], &listing);
+    print_stack("cover", tsurmokan_cover, &listing);
 }
 
 int main(void)
@@ -215,6 +220,6 @@ int main(void)
     check_native();
     for (unsigned at = 0; at < bench_plans_number; at++)
         print_row(at);
-    print_stack();
+    print_stacks();
     return 0;
 }

@@ -97,13 +97,15 @@ def figures(rows, stacks, facts, sizes):
     yield ""
     over = sum(ratio > 1 for ratio in ratios)
     yield f"Library / native: from {min(ratios):.2f} to {max(ratios):.2f}, above 1.0 on {over} of {len(rows)} rows."
+    large = [row["by_native"] for row in rows if row["states"] >= 16]
+    yield f"In the mean of the {len(large)} rows of 16 states or more {sum(large) / len(large):.2f}."
     yield ""
     yield from slopes(rows)
     yield ""
     yield "| Size | bytes |"
     yield "|---|---:|"
-    for name in ("library", "native"):
-        yield f"| stack of one call, the {name}, on the last row | {stacks[name]:,} |"
+    for name, meant in (("library", "the library's report"), ("cover", "the library's cover"), ("native", "the native report")):
+        yield f"| stack of one call, {meant}, on the last row | {stacks[name]:,} |"
     for name, size in zip(("code", "constants", "data written to"), sizes):
         yield f"| {name} in the library's archive | {size:,} |"
 
