@@ -1,5 +1,8 @@
 // `PT input group next outputs`: a row.
 ghost use mathlib.Core.Path.{_≡_};
+ghost use Rattle.rules.specs.Limits.{most-states};
+ghost use Rattle.rules.specs.Text.{nought, one};
+ghost use Rattle.read_fields.specs.Fields.{placesIn};
 ghost use Rattle.rules.specs.Lines.{rowChecked, rowLine};
 ghost use Rattle.read_lines.specs.Rows.{rowRead, rowRest};
 use read_fields::PatternField;
@@ -29,6 +32,13 @@ fn row_checked(count: usize, row: Row) -> RowLine
     RowLine::Read(row)
 }
 
+// The states that a field of k characters `0 1` names.
+fn states_in(f: &[u8], k: usize) -> Places
+    ensures { λ r. ⌜ r ≡ placesIn most-states k nought one one (now (f .entry)) ⌝ }
+{
+    read_fields::places_in(f, rules::MOST_STATES, k, b'0', b'1', b'1')
+}
+
 // The row of four fields.
 fn row_read(
     h: Head,
@@ -45,24 +55,10 @@ fn row_read(
     else {
         return RowLine::Refused(Refusal::BadLine);
     };
-    let Places::Read(states, _) = read_fields::places_in(
-        group,
-        rules::MOST_STATES,
-        h.states,
-        b'0',
-        b'1',
-        b'1',
-    ) else {
+    let Places::Read(states, _) = states_in(group, h.states) else {
         return RowLine::Refused(Refusal::BadLine);
     };
-    let Places::Read(named, _) = read_fields::places_in(
-        next,
-        rules::MOST_STATES,
-        h.states,
-        b'0',
-        b'1',
-        b'1',
-    ) else {
+    let Places::Read(named, _) = states_in(next, h.states) else {
         return RowLine::Refused(Refusal::BadLine);
     };
     let PatternField::Read(given) = read_fields::pattern_in(outputs, rules::MOST_OUTPUTS, h.outputs)

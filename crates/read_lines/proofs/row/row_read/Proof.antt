@@ -22,8 +22,8 @@ returns : tie.Need-returns
 returns c =
     sym (read-each _ _ _ _ _ _ _ (pattern-none most-inputs _ _ (omega arith) (sym (c .before .before .pattern-in .ensures) ∙ c .enum-told .given .1)) refl refl refl)
 
-places-in-requires : tie.Need-places-in-requires
-places-in-requires c κs = search needs
+states-in-requires : tie.Need-states-in-requires
+states-in-requires c κs = search needs
 
 enum-known-states : tie.Need-enum-known-states
 enum-known-states c = search needs
@@ -35,10 +35,10 @@ returns-2 : tie.Need-returns-2
 returns-2 c =
     let i = c .before .before .before .before in
     let fit1 = pattern-read most-inputs _ _ (omega arith) (sym (i .before .before .pattern-in .ensures) ∙ i .asked .given .1) in
-    sym (read-each _ _ _ _ _ _ _ (fit1 .0) (set-none _ _ (sym (c .before .before .places-in .ensures) ∙ c .enum-told2 .given .1)) refl refl)
+    sym (read-each _ _ _ _ _ _ _ (fit1 .0) (set-none _ _ (sym (c .before .before .states-in .ensures) ∙ c .enum-told2 .given .1)) refl refl)
 
-places-in-requires-2 : tie.Need-places-in-requires-2
-places-in-requires-2 c κs = search needs
+states-in-requires-2 : tie.Need-states-in-requires-2
+states-in-requires-2 c κs = search needs
 
 enum-known-named : tie.Need-enum-known-named
 enum-known-named c = search needs
@@ -51,8 +51,8 @@ returns-3 c =
     let g = c .before .before .before .before in
     let i = g .before .before .before .before in
     let fit1 = pattern-read most-inputs _ _ (omega arith) (sym (i .before .before .pattern-in .ensures) ∙ i .asked .given .1) in
-    let fit2 = set-read _ _ (sym (g .before .before .places-in .ensures) ∙ g .states .given .1) in
-    sym (read-each _ _ _ _ _ _ _ (fit1 .0) (fit2 .0) (set-none _ _ (sym (c .before .before .places-in2 .ensures) ∙ c .enum-told3 .given .1)) refl)
+    let fit2 = set-read _ _ (sym (g .before .before .states-in .ensures) ∙ g .states .given .1) in
+    sym (read-each _ _ _ _ _ _ _ (fit1 .0) (fit2 .0) (set-none _ _ (sym (c .before .before .states-in2 .ensures) ∙ c .enum-told3 .given .1)) refl)
 
 pattern-in-requires-2 : tie.Need-pattern-in-requires-2
 pattern-in-requires-2 c κs = search needs
@@ -69,8 +69,8 @@ returns-4 c =
     let g = n .before .before .before .before in
     let i = g .before .before .before .before in
     let fit1 = pattern-read most-inputs _ _ (omega arith) (sym (i .before .before .pattern-in .ensures) ∙ i .asked .given .1) in
-    let fit2 = set-read _ _ (sym (g .before .before .places-in .ensures) ∙ g .states .given .1) in
-    let fit3 = set-read _ _ (sym (n .before .before .places-in2 .ensures) ∙ n .named .given .1) in
+    let fit2 = set-read _ _ (sym (g .before .before .states-in .ensures) ∙ g .states .given .1) in
+    let fit3 = set-read _ _ (sym (n .before .before .states-in2 .ensures) ∙ n .named .given .1) in
     let unfit4 = pattern-none most-outputs _ _ (omega arith) (sym (c .before .before .pattern-in2 .ensures) ∙ c .enum-told4 .given .1) in
     sym (read-each _ _ _ _ _ _ _ (fit1 .0) (fit2 .0) (fit3 .0) unfit4)
 
@@ -85,8 +85,8 @@ returns-5 c =
     let i = g .before .before .before .before in
     let a = i .before .before .before .before .before .before .before .args in
     let fit1 = pattern-read most-inputs _ _ (omega arith) (sym (i .before .before .pattern-in .ensures) ∙ i .asked .given .1) in
-    let fit2 = set-read _ _ (sym (g .before .before .places-in .ensures) ∙ g .states .given .1) in
-    let fit3 = set-read _ _ (sym (n .before .before .places-in2 .ensures) ∙ n .named .given .1) in
+    let fit2 = set-read _ _ (sym (g .before .before .states-in .ensures) ∙ g .states .given .1) in
+    let fit3 = set-read _ _ (sym (n .before .before .states-in2 .ensures) ∙ n .named .given .1) in
     let fit4 = pattern-read most-outputs _ _ (omega arith) (sym (o .before .before .pattern-in2 .ensures) ∙ o .given .given .1) in
     c .row-checked .ensures
     ∙ ap (rowChecked (a .count)) (λ j. record { input = fit1 .1 j; group = fit2 .1 j; next = fit3 .1 j; outputs = fit4 .1 j; line = a .line })
@@ -100,11 +100,11 @@ row-read-spec =
     enum-known-asked
     enum-told
     returns
-    places-in-requires
+    states-in-requires
     enum-known-states
     enum-told-2
     returns-2
-    places-in-requires-2
+    states-in-requires-2
     enum-known-named
     enum-told-3
     returns-3
