@@ -1,21 +1,18 @@
 -- How many requirements there are: of a family, of a list of families, and of the live pairs.
 use mathlib.Core.Path.{_≡_, refl, sym, ap, ap₂, _∙_}
-use mathlib.Core.Bool.{Bool, cond}
-use mathlib.Core.List.{List, [], _∷_, _++_, map}
-use Prim.Native.Nat.{ℕ, zero, suc, _+_, _-_, _*_, _%_, _^_, _≤_, _<_, min}
-use native.Mathlib.Nat.{add-zero, lt-of-lt-of-le}
+use mathlib.Core.List.{List, _∷_, map}
+use Prim.Native.Nat.{ℕ, zero, suc, _+_, _-_, _%_, _^_, _≤_, _<_, min}
+use native.Mathlib.Nat.{add-zero}
 use native.Mathlib.Omega.{arith}
-use lib.Dec.{eqb}
 use lib.ListN.{length, getD, drop, length-append, length-map}
-use lib.Pow.{pow-pos, pow-mono}
+use lib.Pow.{pow-pos}
 use borrow.Author.Tests.{eq-eqb, ne-eqb}
 use Rattle.sets.specs.Sets.{has, everyone, size, total, statesFrom}
 use Rattle.sets.proofs.Members.{has-lt, has-all, has-high}
 use Rattle.sets.proofs.Totals.{total-same, none-total}
 use Rattle.sets.proofs.Size.{size-total}
 use Rattle.sets.proofs.SizeMembers.{size-few}
-use Rattle.rules.specs.declared.Requirement.{Requirement}
-use Rattle.families.specs.Families.{without, inside, single, joined, requirementsOf, requirementsIn}
+use Rattle.families.specs.Families.{without, inside, joined, requirementsOf, requirementsIn}
 use Rattle.families.proofs.Parts.{has-rest, rest-lt}
 use Rattle.families.proofs.Inside.{inside-in, inside-out}
 use Rattle.families.proofs.Walk.{family-left, short-left}
@@ -23,7 +20,7 @@ use Rattle.move_families.proofs.Turn.{looks-add}
 use Rattle.move_pairs.specs.Pairs.{livePairs, partnersOf}
 use Rattle.move_pairs.proofs.Partners.{pairsAmong, pairsOf, Partners}
 use Rattle.move_pairs.proofs.Pair.{pair}
-use Rattle.move_pairs.proofs.Agreed.{partnersBy, partners-at, partners-length, partners-table, partners-pairs}
+use Rattle.move_pairs.proofs.Agreed.{partnersBy, partners-at, partners-table, partners-pairs}
 use Rattle.bit_live.proofs.Starts.{families-short, nobody-from, none-behind}
 
 -- the members of a set among k states from a on

@@ -1,7 +1,7 @@
 -- What a bit leaves live of a family is a family: the states outside whose requirements it does not meet, or nothing.
 use mathlib.Core.Path.{_≡_, refl, sym, ap, ap₂, _∙_}
 use mathlib.Core.Bool.{Bool, true, false, _||_, not, cond}
-use mathlib.Core.List.{List, [], _∷_, map}
+use mathlib.Core.List.{[], _∷_, map}
 use Prim.Native.Nat.{ℕ, zero, suc, _+_, _-_, _^_, _<_}
 use native.Mathlib.Omega.{arith}
 use lib.Bits.{bitXor, and-zero-l}
@@ -11,7 +11,6 @@ use Rattle.sets.specs.Sets.{has, size, statesFrom}
 use Rattle.sets.proofs.Members.{has-lt, has-none}
 use Rattle.rules.specs.Requirements.{met}
 use Rattle.rules.specs.Code.{unmetBy}
-use Rattle.rules.specs.declared.Requirement.{Requirement}
 use Rattle.rules.proofs.Meeting.{met-counts}
 use Rattle.rules.proofs.Unmet.{left-met, left-unmet}
 use Rattle.families.specs.Families.{without, inside, single, joined, requirementsOf}

@@ -1,15 +1,12 @@
 -- The move for the live pairs and a list of families is the list's move over all live requirements; and so for the table filled.
 use mathlib.Core.Path.{_≡_, refl, sym, ap, ap₂, _∙_}
-use mathlib.Core.Bool.{Bool, true, false, cond}
 use mathlib.Core.List.{List, [], _∷_, _++_}
-use Prim.Native.Nat.{ℕ, _+_, _-_, _%_, _^_, _≤_, _<_, min}
+use Prim.Native.Nat.{ℕ, _+_, _%_, _^_, _≤_, _<_}
 use native.Mathlib.Nat.{lt-of-lt-of-le}
-use native.Mathlib.Decide.{decLt}
 use native.Mathlib.Omega.{arith}
 use lib.ListN.{length, getD}
 use lib.Pow.{pow-mono}
-use Rattle.sets.specs.Sets.{flip as turn, size, statesFrom}
-use Rattle.rules.specs.Looks.{moveLooks}
+use Rattle.sets.specs.Sets.{flip as turn, size}
 use Rattle.rules.specs.declared.Requirement.{Requirement}
 use Rattle.rules.proofs.Good.{AllGood}
 use Rattle.move_table.specs.Table.{shared}
@@ -20,8 +17,8 @@ use Rattle.families.proofs.Walk.{Words}
 use Rattle.move_families.specs.Swayed.{swayedAll, looksAll, doubled}
 use Rattle.move_families.proofs.Lists.{Fits}
 use Rattle.move_families.proofs.Whole.{good-append, looks-append, changed-append, changed-moved, all-good, all-looks, all-changed, length-swayed-all, swayed-all-fits}
-use Rattle.move_pairs.specs.Pairs.{livePairs, partnersOf, pairsSwayed}
-use Rattle.move_pairs.proofs.Partners.{pairsAmong, pairsOf, Partners}
+use Rattle.move_pairs.specs.Pairs.{partnersOf, pairsSwayed}
+use Rattle.move_pairs.proofs.Partners.{pairsOf, Partners}
 use Rattle.move_pairs.proofs.Flips.{pairs-good}
 use Rattle.move_pairs.proofs.Changes.{length-swayed, swayed-fits, pairs-changed, pairs-looks}
 use Rattle.move_pairs.proofs.Agreed.{partnersBy, partners-at, partners-table, partners-pairs}

@@ -8,7 +8,7 @@ use native.Mathlib.Omega.{arith}
 use lib.ListN.{length, getD, take, drop, set, length-set, length-take, take-append-drop}
 use lib.Seq.{take-suc-set, drop-set-lt, getD-drop, drop-drop}
 use Rattle.families.proofs.Walk.{family-left, short-left}
-use Rattle.bit_live.specs.Left.{leftFamilies, siftedFamilies, leftOf, staysOf, laid, leftAt, staysAt, wordsBehind, movedFamily}
+use Rattle.bit_live.specs.Left.{leftFamilies, siftedFamilies, laid, leftAt, staysAt, wordsBehind, movedFamily}
 
 left-short : (b : ℕ) (fs : List ℕ) → length fs ≤ 2 → leftFamilies b fs ≡ []
 unfolding leftFamilies

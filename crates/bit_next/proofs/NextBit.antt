@@ -1,7 +1,7 @@
 -- The next bit by gain tables is 01's, its passes and its looks are few, and behind it those requirements are live that it leaves.
 use mathlib.Core.Path.{_≡_, ap₂, _∙_}
 use mathlib.Core.List.{List, [], _∷_, _++_}
-use Prim.Native.Nat.{ℕ, suc, _*_, _^_, _≤_, _<_, min}
+use Prim.Native.Nat.{ℕ, suc, _*_, _^_, _≤_, min}
 use native.Mathlib.Nat.{mul-le-mul}
 use native.Mathlib.Omega.{arith}
 use lib.ListN.{length, take}

@@ -17,7 +17,7 @@ use Rattle.rules.proofs.Unmet.{liveAfter, unmetIn, live-unmet}
 use Rattle.families.specs.Families.{inside}
 use Rattle.families.proofs.Inside.{inside-in}
 use Rattle.families.proofs.Drawn.{none-high}
-use Rattle.move_pairs.specs.Pairs.{livePairs, likeOf, othersOf, alikeIn, partnersOf}
+use Rattle.move_pairs.specs.Pairs.{livePairs, othersOf, alikeIn, partnersOf}
 use Rattle.move_pairs.proofs.Partners.{pairsAmong, pairsOf, Partners, keptFrom}
 use Rattle.move_pairs.proofs.Pair.{pair}
 use Rattle.move_pairs.proofs.Kept.{kept-at, kept-length, kept-partners, kept-within, pairs-left}

@@ -1,5 +1,5 @@
 -- The whole: too long, or what the lines say, and then the conflict.
-use mathlib.Core.Path.{_≡_, refl, sym, ap, _∙_}
+use mathlib.Core.Path.{_≡_, refl, sym, ap}
 use mathlib.Core.List.{List}
 use Prim.Native.Nat.{ℕ, _≤_, _<_}
 use lib.ListN.{length}
@@ -8,7 +8,6 @@ use Rattle.rules.specs.Limits.{most-bytes}
 use Rattle.rules.specs.Text.{linesOf}
 use Rattle.rules.specs.Listing.{blank, rowsOf, accepted, refused, readLines, conflict, judged, checked, reading}
 use Rattle.rules.specs.declared.Listing.{Listing}
-use Rattle.rules.specs.declared.Reading.{Reading}
 use Rattle.rules.specs.declared.Refusal.{Refusal}
 use Rattle.rules.specs.declared.Refusal.the-variants.{Limit}
 use Rattle.rules.specs.declared.Verdict.{Verdict}

@@ -10,9 +10,9 @@ use native.Mathlib.Omega.{arith}
 use lib.ListN.{length, getD, take, drop, length-drop}
 use lib.Seq.{take-all}
 use lib.Dec.{ltb, eqb}
-use borrow.Author.Tests.{ltb-true, lt-ltb, eqb-true, eq-eqb, ne-eqb}
+use borrow.Author.Tests.{ltb-true, lt-ltb, eq-eqb, ne-eqb}
 use Rattle.sets.proofs.Every.{and-first, and-second, and-both}
-use Rattle.rules.specs.Text.{push, split, allOf}
+use Rattle.rules.specs.Text.{split, allOf}
 use Rattle.read_pieces.specs.Pieces.{standsAt}
 use Rattle.read_pieces.proofs.Laws.{First, first-of, split-some}
 

@@ -5,7 +5,7 @@ use Prim.Native.Nat.{ℕ, _+_}
 use native.Mathlib.Omega.{arith}
 use lib.ListN.{length, length-append, length-map}
 use Rattle.sets.specs.Sets.{statesFrom}
-use Rattle.rules.specs.Cover.{faceAt, nextCode, cover}
+use Rattle.rules.specs.Cover.{faceAt, nextCode}
 use Rattle.rules.specs.declared.Head.{Head}
 use Rattle.rules.specs.declared.Row.{Row}
 use Rattle.rules.specs.declared.Pattern.{Pattern}

@@ -1,21 +1,10 @@
 -- `bit_live::count_families` meets its contract.
 use Rattle.bit_live.proofs.Counts.{Counted, counted-none, counted-next, counted-all}
-use Prim.Native.Nat.{ℕ, zero, suc, _≤_, _<_, _-_, _+_, _*_, _^_}
-use mathlib.Core.Path.{_≡_, refl, sym, ap, _∙_}
-use mathlib.Core.Logic.{⊎-elim}
-use mathlib.Core.List.{List, [], _∷_, _++_}
-use mathlib.Core.Bool.{Bool, true, false}
-use native.Mathlib.Omega.{arith}
-use native.Mathlib.Numerals.{add-one}
+use Prim.Native.Nat.{_-_}
 use borrow.Author.Needs.{needs}
-use borrow.Author.Tests.{lt-ltb, le-ltb, le-leb, lt-leb, eq-eqb, ne-eqb, not-true, not-false}
-use lib.ListN.{length, take, drop, getD, set}
+use lib.ListN.{length}
 use Rattle.bit_live.proofs.count_families.Statement.{statement}
 use Rattle.bit_live.proofs.count_families.Tie as tie
-use Rattle.bit_live.proofs.count_families.Reads as reads
-use Rattle.bit_live.proofs.count_families.Lts as lts
-use Rattle.bit_live.proofs.count_family.Reads as count-family-reads
-use Rattle.std.proofs.num.wrapping_add_usize.Reads as wrapping-add-usize-reads
 
 abbrev Inv-loop : tie.InvT-loop
 Inv-loop fs count₀ i₀ count i =

@@ -1,23 +1,10 @@
 -- `bit_live::count_family` meets its contract.
 use Rattle.sets.specs.Sets.{size}
 use Rattle.bit_live.proofs.Counts.{count-single, count-group}
-use Prim.Native.Nat.{ℕ, zero, suc, _≤_, _<_, _-_, _+_, _*_, _^_}
-use mathlib.Core.Path.{_≡_, refl, sym, ap, _∙_}
-use mathlib.Core.Logic.{⊎-elim}
-use mathlib.Core.List.{List, [], _∷_, _++_}
-use mathlib.Core.Bool.{Bool, true, false}
-use native.Mathlib.Omega.{arith}
-use native.Mathlib.Numerals.{add-one}
-use borrow.Author.Needs.{needs}
-use borrow.Author.Tests.{lt-ltb, le-ltb, le-leb, lt-leb, eq-eqb, ne-eqb, not-true, not-false}
-use lib.ListN.{length, take, drop, getD, set}
+use mathlib.Core.Path.{sym, ap, _∙_}
 use borrow.Author.Needs.{needs}
 use Rattle.bit_live.proofs.count_family.Statement.{statement}
 use Rattle.bit_live.proofs.count_family.Tie as tie
-use Rattle.bit_live.proofs.count_family.Reads as reads
-use Rattle.bit_live.proofs.count_family.Lts as lts
-use Rattle.families.proofs.without_of.Reads as without-of-reads
-use Rattle.sets.proofs.size_of.Reads as size-of-reads
 
 returns : tie.Need-returns
 returns c =

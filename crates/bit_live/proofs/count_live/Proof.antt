@@ -4,24 +4,13 @@ use Prim.Native.Nat.{_%_}
 use lib.ListN.{length-append}
 use Rattle.families.specs.Families.{requirementsIn}
 use Rattle.move_pairs.specs.Pairs.{livePairs}
-use Prim.Native.Nat.{ℕ, zero, suc, _≤_, _<_, _-_, _+_, _*_, _^_}
-use mathlib.Core.Path.{_≡_, refl, sym, ap, _∙_}
-use mathlib.Core.Logic.{⊎-elim}
-use mathlib.Core.List.{List, [], _∷_, _++_}
-use mathlib.Core.Bool.{Bool, true, false}
+use Prim.Native.Nat.{ℕ, _+_, _^_}
+use mathlib.Core.Path.{_≡_, sym, ap, _∙_}
 use native.Mathlib.Omega.{arith}
-use native.Mathlib.Numerals.{add-one}
 use borrow.Author.Needs.{needs}
-use borrow.Author.Tests.{lt-ltb, le-ltb, le-leb, lt-leb, eq-eqb, ne-eqb, not-true, not-false}
-use lib.ListN.{length, take, drop, getD, set}
-use borrow.Author.Needs.{needs}
+use lib.ListN.{length}
 use Rattle.bit_live.proofs.count_live.Statement.{statement}
 use Rattle.bit_live.proofs.count_live.Tie as tie
-use Rattle.bit_live.proofs.count_live.Reads as reads
-use Rattle.bit_live.proofs.count_live.Lts as lts
-use Rattle.bit_live.proofs.count_families.Reads as count-families-reads
-use Rattle.bit_live.proofs.count_pairs.Reads as count-pairs-reads
-use Rattle.std.proofs.num.wrapping_add_usize.Reads as wrapping-add-usize-reads
 
 inner : (x y : ℕ) → (x + y % 2 ^ 64) % 2 ^ 64 ≡ (x + y) % 2 ^ 64
 inner x y = omega arith

@@ -1,28 +1,15 @@
 -- `bit_live::count_pairs` meets its contract.
 use Prim.Native.Nat.{min}
-use Rattle.sets.specs.Sets.{size}
 use Rattle.families.specs.Families.{without}
 use Rattle.move_pairs.specs.Pairs.{livePairs}
 use Rattle.bit_live.proofs.Counts.{pairsFrom, pairs-first, pairs-more, pairs-end, above-few}
-use Prim.Native.Nat.{ℕ, zero, suc, _≤_, _<_, _-_, _+_, _*_, _^_}
-use mathlib.Core.Path.{_≡_, refl, sym, ap, _∙_}
-use mathlib.Core.Logic.{⊎-elim}
-use mathlib.Core.List.{List, [], _∷_, _++_}
-use mathlib.Core.Bool.{Bool, true, false}
+use Prim.Native.Nat.{ℕ, _≤_, _-_, _+_, _*_}
+use mathlib.Core.Path.{_≡_, sym, ap, _∙_}
 use native.Mathlib.Omega.{arith}
-use native.Mathlib.Numerals.{add-one}
 use borrow.Author.Needs.{needs}
-use borrow.Author.Tests.{lt-ltb, le-ltb, le-leb, lt-leb, eq-eqb, ne-eqb, not-true, not-false}
-use lib.ListN.{length, take, drop, getD, set}
+use lib.ListN.{length}
 use Rattle.bit_live.proofs.count_pairs.Statement.{statement}
 use Rattle.bit_live.proofs.count_pairs.Tie as tie
-use Rattle.bit_live.proofs.count_pairs.Reads as reads
-use Rattle.bit_live.proofs.count_pairs.Lts as lts
-use Rattle.families.proofs.without_of.Reads as without-of-reads
-use Rattle.move_pairs.proofs.partners_of.Reads as partners-of-reads
-use Rattle.sets.proofs.everyone_of.Reads as everyone-of-reads
-use Rattle.sets.proofs.least.Reads as least-reads
-use Rattle.sets.proofs.size_of.Reads as size-of-reads
 
 -- one state more is counted
 next : (count all left more one : ℕ) → count + left ≡ all → left ≡ one + more → count + one + more ≡ all

@@ -3,23 +3,10 @@ use Rattle.move_table.specs.Moves.{filled}
 use Rattle.families.specs.Families.{requirementsIn}
 use Rattle.move_pairs.specs.Pairs.{livePairs}
 use Rattle.bit_live.proofs.Live.{filled-append}
-use Prim.Native.Nat.{ℕ, zero, suc, _≤_, _<_, _-_, _+_, _*_, _^_}
-use mathlib.Core.Path.{_≡_, refl, sym, ap, _∙_}
-use mathlib.Core.Logic.{⊎-elim}
-use mathlib.Core.List.{List, [], _∷_, _++_}
-use mathlib.Core.Bool.{Bool, true, false}
-use native.Mathlib.Omega.{arith}
-use native.Mathlib.Numerals.{add-one}
-use borrow.Author.Needs.{needs}
-use borrow.Author.Tests.{lt-ltb, le-ltb, le-leb, lt-leb, eq-eqb, ne-eqb, not-true, not-false}
-use lib.ListN.{length, take, drop, getD, set}
+use mathlib.Core.Path.{sym, ap, _∙_}
 use borrow.Author.Needs.{needs}
 use Rattle.bit_live.proofs.fill_live.Statement.{statement}
 use Rattle.bit_live.proofs.fill_live.Tie as tie
-use Rattle.bit_live.proofs.fill_live.Reads as reads
-use Rattle.bit_live.proofs.fill_live.Lts as lts
-use Rattle.move_families.proofs.fill_families.Reads as fill-families-reads
-use Rattle.move_pairs.proofs.fill_pairs.Reads as fill-pairs-reads
 
 fill-pairs-requires : tie.Need-fill-pairs-requires
 fill-pairs-requires c κs = search needs

@@ -2,22 +2,12 @@
 use Prim.Native.Nat.{min}
 use native.Mathlib.Decide.{ℕ-discrete}
 use Rattle.move_pairs.specs.Pairs.{partnersOf}
-use Prim.Native.Nat.{ℕ, zero, suc, _≤_, _<_, _-_, _+_, _*_, _^_}
-use mathlib.Core.Path.{_≡_, refl, sym, ap, _∙_}
-use mathlib.Core.Logic.{⊎-elim}
-use mathlib.Core.List.{List, [], _∷_, _++_}
-use mathlib.Core.Bool.{Bool, true, false}
+use Prim.Native.Nat.{ℕ, _≤_, _<_, _-_, _+_}
+use mathlib.Core.Path.{_≡_, sym, ap, _∙_}
 use native.Mathlib.Omega.{arith}
-use native.Mathlib.Numerals.{add-one}
 use borrow.Author.Needs.{needs}
-use borrow.Author.Tests.{lt-ltb, le-ltb, le-leb, lt-leb, eq-eqb, ne-eqb, not-true, not-false}
-use lib.ListN.{length, take, drop, getD, set}
 use Rattle.bit_live.proofs.first_paired.Statement.{statement}
 use Rattle.bit_live.proofs.first_paired.Tie as tie
-use Rattle.bit_live.proofs.first_paired.Reads as reads
-use Rattle.bit_live.proofs.first_paired.Lts as lts
-use Rattle.move_pairs.proofs.partners_of.Reads as partners-of-reads
-use Rattle.sets.proofs.least.Reads as least-reads
 
 -- one state more without a partner
 next : (f : ℕ → ℕ) (i : ℕ) → ((k : ℕ) → k < i → f k ≡ 0) → f i ≡ 0 → (k : ℕ) → k < i + 1 → f k ≡ 0

@@ -1,25 +1,8 @@
 -- `bit_live::move_live` meets its contract.
 use Rattle.bit_live.proofs.Live.{by-live}
-use Prim.Native.Nat.{ℕ, zero, suc, _≤_, _<_, _-_, _+_, _*_, _^_}
-use mathlib.Core.Path.{_≡_, refl, sym, ap, _∙_}
-use mathlib.Core.Logic.{⊎-elim}
-use mathlib.Core.List.{List, [], _∷_, _++_}
-use mathlib.Core.Bool.{Bool, true, false}
-use native.Mathlib.Omega.{arith}
-use native.Mathlib.Numerals.{add-one}
-use borrow.Author.Needs.{needs}
-use borrow.Author.Tests.{lt-ltb, le-ltb, le-leb, lt-leb, eq-eqb, ne-eqb, not-true, not-false}
-use lib.ListN.{length, take, drop, getD, set}
 use borrow.Author.Needs.{needs}
 use Rattle.bit_live.proofs.move_live.Statement.{statement}
 use Rattle.bit_live.proofs.move_live.Tie as tie
-use Rattle.bit_live.proofs.move_live.Reads as reads
-use Rattle.bit_live.proofs.move_live.Lts as lts
-use Rattle.move_families.proofs.double_own.Reads as double-own-reads
-use Rattle.move_families.proofs.sway_families.Reads as sway-families-reads
-use Rattle.move_pairs.proofs.sway_pairs.Reads as sway-pairs-reads
-use Rattle.move_table.proofs.level_at.Reads as level-at-reads
-use Rattle.std.proofs.num.wrapping_add_usize.Reads as wrapping-add-usize-reads
 
 level-at-requires : tie.Need-level-at-requires
 level-at-requires c κs = search needs

@@ -1,20 +1,10 @@
 -- `bit_live::sift_families` meets its contract.
 use Rattle.bit_live.proofs.Sifting.{Judged, judged-none, judged-next, judged-words, judged-families}
-use Prim.Native.Nat.{ℕ, zero, suc, _≤_, _<_, _-_, _+_, _*_, _^_}
-use mathlib.Core.Path.{_≡_, refl, sym, ap, _∙_}
-use mathlib.Core.Logic.{⊎-elim}
-use mathlib.Core.List.{List, [], _∷_, _++_}
-use mathlib.Core.Bool.{Bool, true, false}
+use Prim.Native.Nat.{_≤_, _-_}
 use native.Mathlib.Omega.{arith}
-use native.Mathlib.Numerals.{add-one}
-use borrow.Author.Needs.{needs}
-use borrow.Author.Tests.{lt-ltb, le-ltb, le-leb, lt-leb, eq-eqb, ne-eqb, not-true, not-false}
-use lib.ListN.{length, take, drop, getD, set}
+use lib.ListN.{length}
 use Rattle.bit_live.proofs.sift_families.Statement.{statement}
 use Rattle.bit_live.proofs.sift_families.Tie as tie
-use Rattle.bit_live.proofs.sift_families.Reads as reads
-use Rattle.bit_live.proofs.sift_families.Lts as lts
-use Rattle.bit_live.proofs.left.sift_family.Reads as sift-family-reads
 
 abbrev Inv-loop : tie.InvT-loop
 Inv-loop fs₀ b j₀ i₀ fs j i =

@@ -3,22 +3,14 @@ use Rattle.rules.specs.OneBit.{start}
 use Rattle.rules.specs.declared.Requirement.{Requirement}
 use Rattle.families.specs.Families.{requirementsIn}
 use Rattle.bit_live.proofs.Starts.{passed-over, start-here, start-over}
-use Prim.Native.Nat.{ℕ, zero, suc, _≤_, _<_, _-_, _+_, _*_, _^_}
+use Prim.Native.Nat.{_≤_, _-_}
 use mathlib.Core.Path.{_≡_, refl, sym, ap, _∙_}
-use mathlib.Core.Logic.{⊎-elim}
-use mathlib.Core.List.{List, [], _∷_, _++_}
-use mathlib.Core.Bool.{Bool, true, false}
+use mathlib.Core.List.{List}
 use native.Mathlib.Omega.{arith}
-use native.Mathlib.Numerals.{add-one}
 use borrow.Author.Needs.{needs}
-use borrow.Author.Tests.{lt-ltb, le-ltb, le-leb, lt-leb, eq-eqb, ne-eqb, not-true, not-false}
-use lib.ListN.{length, take, drop, getD, set}
+use lib.ListN.{length, drop}
 use Rattle.bit_live.proofs.start_families.Statement.{statement}
 use Rattle.bit_live.proofs.start_families.Tie as tie
-use Rattle.bit_live.proofs.start_families.Reads as reads
-use Rattle.bit_live.proofs.start_families.Lts as lts
-use Rattle.bit_live.proofs.count_family.Reads as count-family-reads
-use Rattle.bit_live.proofs.start_family.Reads as start-family-reads
 
 abbrev Inv-loop : tie.InvT-loop
 Inv-loop fs i₀ i =

@@ -6,24 +6,11 @@ use Rattle.sets.proofs.LowestMember.{lowest-at}
 use Rattle.families.specs.Families.{without}
 use Rattle.families.proofs.Parts.{rest-lt}
 use Rattle.bit_live.proofs.Starts.{start-single, start-none, start-group}
-use Prim.Native.Nat.{ℕ, zero, suc, _≤_, _<_, _-_, _+_, _*_, _^_}
-use mathlib.Core.Path.{_≡_, refl, sym, ap, _∙_}
-use mathlib.Core.Logic.{⊎-elim}
-use mathlib.Core.List.{List, [], _∷_, _++_}
-use mathlib.Core.Bool.{Bool, true, false}
-use native.Mathlib.Omega.{arith}
-use native.Mathlib.Numerals.{add-one}
-use borrow.Author.Needs.{needs}
-use borrow.Author.Tests.{lt-ltb, le-ltb, le-leb, lt-leb, eq-eqb, ne-eqb, not-true, not-false}
-use lib.ListN.{length, take, drop, getD, set}
+use Prim.Native.Nat.{_<_, _^_}
+use mathlib.Core.Path.{_≡_, sym, ap, _∙_}
 use borrow.Author.Needs.{needs}
 use Rattle.bit_live.proofs.start_family.Statement.{statement}
 use Rattle.bit_live.proofs.start_family.Tie as tie
-use Rattle.bit_live.proofs.start_family.Reads as reads
-use Rattle.bit_live.proofs.start_family.Lts as lts
-use Rattle.families.proofs.without_of.Reads as without-of-reads
-use Rattle.sets.proofs.flipped.Reads as flipped-reads
-use Rattle.sets.proofs.lowest.Reads as lowest-reads
 
 returns : tie.Need-returns
 returns c =

@@ -6,26 +6,11 @@ use Rattle.rules.specs.OneBit.{start}
 use Rattle.rules.specs.declared.Requirement.{Requirement}
 use Rattle.families.specs.Families.{requirementsIn}
 use Rattle.bit_live.proofs.Starts.{pairs-nobody, pairs-some}
-use Prim.Native.Nat.{ℕ, zero, suc, _≤_, _<_, _-_, _+_, _*_, _^_}
-use mathlib.Core.Path.{_≡_, refl, sym, ap, _∙_}
-use mathlib.Core.Logic.{⊎-elim}
-use mathlib.Core.List.{List, [], _∷_, _++_}
-use mathlib.Core.Bool.{Bool, true, false}
-use native.Mathlib.Omega.{arith}
-use native.Mathlib.Numerals.{add-one}
-use borrow.Author.Needs.{needs}
-use borrow.Author.Tests.{lt-ltb, le-ltb, le-leb, lt-leb, eq-eqb, ne-eqb, not-true, not-false}
-use lib.ListN.{length, take, drop, getD, set}
+use mathlib.Core.Path.{sym, ap, _∙_}
+use mathlib.Core.List.{List, _++_}
 use borrow.Author.Needs.{needs}
 use Rattle.bit_live.proofs.start_live.Statement.{statement}
 use Rattle.bit_live.proofs.start_live.Tie as tie
-use Rattle.bit_live.proofs.start_live.Reads as reads
-use Rattle.bit_live.proofs.start_live.Lts as lts
-use Rattle.bit_live.proofs.first_paired.Reads as first-paired-reads
-use Rattle.bit_live.proofs.start_families.Reads as start-families-reads
-use Rattle.move_pairs.proofs.partners_of.Reads as partners-of-reads
-use Rattle.sets.proofs.flipped.Reads as flipped-reads
-use Rattle.sets.proofs.lowest.Reads as lowest-reads
 
 first-paired-requires : tie.Need-first-paired-requires
 first-paired-requires c κs = search needs

@@ -5,25 +5,10 @@ use Rattle.bit_choice.specs.Pass.{builtBy}
 use Rattle.bit_choice.specs.declared.Built.{Built}
 use Rattle.bit_live.specs.Live.{liveIn}
 use Rattle.bit_next.specs.NextBit.{nextBy}
-use Prim.Native.Nat.{ℕ, zero, suc, _≤_, _<_, _-_, _+_, _*_, _^_}
-use mathlib.Core.Path.{_≡_, refl, sym, ap, _∙_}
-use mathlib.Core.Logic.{⊎-elim}
-use mathlib.Core.List.{List, [], _∷_, _++_}
-use mathlib.Core.Bool.{Bool, true, false}
-use native.Mathlib.Omega.{arith}
-use native.Mathlib.Numerals.{add-one}
-use borrow.Author.Needs.{needs}
-use borrow.Author.Tests.{lt-ltb, le-ltb, le-leb, lt-leb, eq-eqb, ne-eqb, not-true, not-false}
-use lib.ListN.{length, take, drop, getD, set}
+use mathlib.Core.Path.{ap, _∙_}
 use borrow.Author.Needs.{needs}
 use Rattle.bit_next.proofs.add_bit.Statement.{statement}
 use Rattle.bit_next.proofs.add_bit.Tie as tie
-use Rattle.bit_next.proofs.add_bit.Reads as reads
-use Rattle.bit_next.proofs.add_bit.Lts as lts
-use Rattle.bit_live.proofs.sift_families.Reads as sift-families-reads
-use Rattle.bit_live.proofs.start_live.Reads as start-live-reads
-use Rattle.bit_passes.proofs.build_bit.Reads as build-bit-reads
-use Rattle.bit_choice.proofs.complement.Reads as complement-reads
 
 start-live-requires : tie.Need-start-live-requires
 start-live-requires c κs = search needs

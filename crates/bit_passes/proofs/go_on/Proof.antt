@@ -1,27 +1,9 @@
 -- `bit_passes::go_on` meets its contract.
 use Rattle.bit_live.specs.Live.{liveIn}
 use Rattle.bit_passes.proofs.Running.{by-move}
-use Prim.Native.Nat.{ℕ, zero, suc, _≤_, _<_, _-_, _+_, _*_, _^_}
-use mathlib.Core.Path.{_≡_, refl, sym, ap, _∙_}
-use mathlib.Core.Logic.{⊎-elim}
-use mathlib.Core.List.{List, [], _∷_, _++_}
-use mathlib.Core.Bool.{Bool, true, false}
-use native.Mathlib.Omega.{arith}
-use native.Mathlib.Numerals.{add-one}
-use borrow.Author.Needs.{needs}
-use borrow.Author.Tests.{lt-ltb, le-ltb, le-leb, lt-leb, eq-eqb, ne-eqb, not-true, not-false}
-use lib.ListN.{length, take, drop, getD, set}
 use borrow.Author.Needs.{needs}
 use Rattle.bit_passes.proofs.go_on.Statement.{statement}
 use Rattle.bit_passes.proofs.go_on.Tie as tie
-use Rattle.bit_passes.proofs.go_on.Reads as reads
-use Rattle.bit_passes.proofs.go_on.Lts as lts
-use Rattle.bit_live.proofs.move_live.Reads as move-live-reads
-use Rattle.bit_choice.proofs.best_of.Reads as best-of-reads
-use Rattle.bit_choice.proofs.choose.Reads as choose-reads
-use Rattle.bit_choice.proofs.reach.Reads as reach-reads
-use Rattle.move_table.proofs.level_at.Reads as level-at-reads
-use Rattle.sets.proofs.flipped.Reads as flipped-reads
 
 choose-requires : tie.Need-choose-requires
 choose-requires c κs = search needs

@@ -6,23 +6,14 @@ use Rattle.move_table.specs.Table.{level}
 use Rattle.bit_choice.specs.Pass.{Going, going, goMoves, passed}
 use Rattle.bit_choice.proofs.OneMove.{moves-start, moves-more, moves-end}
 use Rattle.bit_live.specs.Live.{liveIn}
-use Prim.Native.Nat.{ℕ, zero, suc, _≤_, _<_, _-_, _+_, _*_, _^_}
-use mathlib.Core.Path.{_≡_, refl, sym, ap, _∙_}
-use mathlib.Core.Logic.{⊎-elim}
-use mathlib.Core.List.{List, [], _∷_, _++_}
-use mathlib.Core.Bool.{Bool, true, false}
+use Prim.Native.Nat.{ℕ, _≤_, _-_, _+_}
+use mathlib.Core.Path.{_≡_, sym, ap, _∙_}
+use mathlib.Core.List.{List}
 use native.Mathlib.Omega.{arith}
-use native.Mathlib.Numerals.{add-one}
 use borrow.Author.Needs.{needs}
-use borrow.Author.Tests.{lt-ltb, le-ltb, le-leb, lt-leb, eq-eqb, ne-eqb, not-true, not-false}
-use lib.ListN.{length, take, drop, getD, set}
+use lib.ListN.{length}
 use Rattle.bit_passes.proofs.run_pass.Statement.{statement}
 use Rattle.bit_passes.proofs.run_pass.Tie as tie
-use Rattle.bit_passes.proofs.run_pass.Reads as reads
-use Rattle.bit_passes.proofs.run_pass.Lts as lts
-use Rattle.bit_live.proofs.fill_live.Reads as fill-live-reads
-use Rattle.bit_passes.proofs.go_on.Reads as go-on-reads
-use Rattle.sets.proofs.everyone_of.Reads as everyone-of-reads
 
 abbrev Inv-loop : tie.InvT-loop
 Inv-loop n bits fs b t₀ w₀ i₀ t w i =

@@ -3,23 +3,13 @@ use Rattle.bit_choice.specs.Pass.{passesBy, tallied}
 use Rattle.bit_live.specs.Live.{liveIn}
 use Rattle.bit_passes.specs.Runs.{ranOn}
 use Rattle.bit_passes.proofs.Running.{built-done, built-end, allowed, allowed-first, allowed-more, allowed-last}
-use Prim.Native.Nat.{ℕ, zero, suc, _≤_, _<_, _-_, _+_, _*_, _^_}
-use mathlib.Core.Path.{_≡_, refl, sym, ap, _∙_}
-use mathlib.Core.Logic.{⊎-elim}
-use mathlib.Core.List.{List, [], _∷_, _++_}
-use mathlib.Core.Bool.{Bool, true, false}
+use Prim.Native.Nat.{ℕ, _≤_, _-_, _+_}
+use mathlib.Core.Path.{_≡_, sym, ap, _∙_}
 use native.Mathlib.Omega.{arith}
-use native.Mathlib.Numerals.{add-one}
 use borrow.Author.Needs.{needs}
-use borrow.Author.Tests.{lt-ltb, le-ltb, le-leb, lt-leb, eq-eqb, ne-eqb, not-true, not-false}
-use lib.ListN.{length, take, drop, getD, set}
+use lib.ListN.{length}
 use Rattle.bit_passes.proofs.run_passes.Statement.{statement}
 use Rattle.bit_passes.proofs.run_passes.Tie as tie
-use Rattle.bit_passes.proofs.run_passes.Reads as reads
-use Rattle.bit_passes.proofs.run_passes.Lts as lts
-use Rattle.bit_live.proofs.count_family.Reads as count-family-reads
-use Rattle.bit_live.proofs.count_pairs.Reads as count-pairs-reads
-use Rattle.bit_passes.proofs.run_some.Reads as run-some-reads
 
 abbrev Inv-loop : tie.InvT-loop
 Inv-loop n bits fs start w₀ i₀ w i =

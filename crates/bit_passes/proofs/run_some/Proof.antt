@@ -1,22 +1,11 @@
 -- `bit_passes::run_some` meets its contract.
 use Rattle.bit_live.specs.Live.{liveIn}
 use Rattle.bit_passes.proofs.Running.{Running, running-first, running-more, running-last, running-end, ran-done}
-use Prim.Native.Nat.{ℕ, zero, suc, _≤_, _<_, _-_, _+_, _*_, _^_}
-use mathlib.Core.Path.{_≡_, refl, sym, ap, _∙_}
-use mathlib.Core.Logic.{⊎-elim}
-use mathlib.Core.List.{List, [], _∷_, _++_}
-use mathlib.Core.Bool.{Bool, true, false}
+use mathlib.Core.Path.{refl}
 use native.Mathlib.Omega.{arith}
-use native.Mathlib.Numerals.{add-one}
 use borrow.Author.Needs.{needs}
-use borrow.Author.Tests.{lt-ltb, le-ltb, le-leb, lt-leb, eq-eqb, ne-eqb, not-true, not-false}
-use lib.ListN.{length, take, drop, getD, set}
 use Rattle.bit_passes.proofs.run_some.Statement.{statement}
 use Rattle.bit_passes.proofs.run_some.Tie as tie
-use Rattle.bit_passes.proofs.run_some.Reads as reads
-use Rattle.bit_passes.proofs.run_some.Lts as lts
-use Rattle.bit_passes.proofs.run_pass.Reads as run-pass-reads
-use Rattle.std.proofs.num.wrapping_add_u64.Reads as wrapping-add-u64-reads
 
 abbrev Inv-loop : tie.InvT-loop
 Inv-loop n bits fs k b₀ passes₀ looks₀ left₀ b passes looks left =

@@ -1,7 +1,6 @@
 -- `code_building::encode_families` meets its contract: what the run of bits came to is the code.
-use mathlib.Core.Path.{refl, sym, _∙_}
+use mathlib.Core.Path.{sym, _∙_}
 use borrow.Author.Needs.{needs}
-use Rattle.rules.specs.Limits.{most-bits}
 use Rattle.code_building.proofs.Running.{few-counted}
 use Rattle.code_building.proofs.Encoded.{begun, too-wide, wide-enough}
 use Rattle.code_building.proofs.encode_families.Statement.{statement}

@@ -1,5 +1,4 @@
 -- `host_replies::say_cover` meets its contract.
-use mathlib.Core.Path.{_∙_}
 use mathlib.Core.Logic.{⊎-elim}
 use Prim.Native.Nat.{_≤_}
 use native.Mathlib.Omega.{arith}

@@ -1,6 +1,5 @@
 -- `move_families::double_own` meets its contract.
 use lib.Seq.{set-out}
-use Prim.Native.Nat.{_-_}
 use mathlib.Core.Path.{sym, ap}
 use borrow.Author.Needs.{needs}
 use lib.ListN.{set}

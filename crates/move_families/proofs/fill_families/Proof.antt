@@ -1,21 +1,13 @@
 -- `move_families::fill_families` meets its contract.
-use Rattle.move_families.specs.Filled.{familyFilled, filledAll}
+use Rattle.move_families.specs.Filled.{filledAll}
 use Rattle.move_families.proofs.Filling.{filled-more, filled-end, filled-families}
-use Prim.Native.Nat.{ℕ, zero, suc, _≤_, _<_, _-_, _+_, _*_, _^_}
+use Prim.Native.Nat.{_≤_, _-_, _+_}
 use mathlib.Core.Path.{_≡_, refl, sym, ap, _∙_}
-use mathlib.Core.Logic.{⊎-elim}
-use mathlib.Core.List.{List, [], _∷_, _++_}
-use mathlib.Core.Bool.{Bool, true, false}
 use native.Mathlib.Omega.{arith}
-use native.Mathlib.Numerals.{add-one}
 use borrow.Author.Needs.{needs}
-use borrow.Author.Tests.{lt-ltb, le-ltb, le-leb, lt-leb, eq-eqb, ne-eqb, not-true, not-false}
-use lib.ListN.{length, take, drop, getD, set}
+use lib.ListN.{length, drop}
 use Rattle.move_families.proofs.fill_families.Statement.{statement}
 use Rattle.move_families.proofs.fill_families.Tie as tie
-use Rattle.move_families.proofs.fill_families.Reads as reads
-use Rattle.move_families.proofs.fill_families.Lts as lts
-use Rattle.move_families.proofs.fill_family.Reads as fill-family-reads
 
 abbrev Inv-loop : tie.InvT-loop
 Inv-loop fs b t₀ i₀ t i =

@@ -1,6 +1,5 @@
 -- `move_families::fill_family` meets its contract.
 use Rattle.move_families.proofs.Filling.{by-family}
-use Prim.Native.Nat.{_-_}
 use borrow.Author.Needs.{needs}
 use Rattle.move_families.proofs.fill_family.Statement.{statement}
 use Rattle.move_families.proofs.fill_family.Tie as tie

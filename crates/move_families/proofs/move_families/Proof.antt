@@ -5,24 +5,11 @@ use Rattle.families.proofs.Walk.{Words}
 use Rattle.move_families.specs.Swayed.{doubled}
 use Rattle.move_families.proofs.Lists.{Fits}
 use Rattle.move_families.proofs.Whole.{moved-families, looked-families}
-use Prim.Native.Nat.{ℕ, zero, suc, _≤_, _<_, _-_, _+_, _*_, _^_}
-use mathlib.Core.Path.{_≡_, refl, sym, ap, _∙_}
-use mathlib.Core.Logic.{⊎-elim}
-use mathlib.Core.List.{List, [], _∷_, _++_}
-use mathlib.Core.Bool.{Bool, true, false}
-use native.Mathlib.Omega.{arith}
-use native.Mathlib.Numerals.{add-one}
-use borrow.Author.Needs.{needs}
-use borrow.Author.Tests.{lt-ltb, le-ltb, le-leb, lt-leb, eq-eqb, ne-eqb, not-true, not-false}
-use lib.ListN.{length, take, drop, getD, set}
+use Prim.Native.Nat.{ℕ, _^_}
+use mathlib.Core.Path.{sym, ap, _∙_}
 use borrow.Author.Needs.{needs}
 use Rattle.move_families.proofs.move_families.Statement.{statement}
 use Rattle.move_families.proofs.move_families.Tie as tie
-use Rattle.move_families.proofs.move_families.Reads as reads
-use Rattle.move_families.proofs.move_families.Lts as lts
-use Rattle.move_families.proofs.double_own.Reads as double-own-reads
-use Rattle.move_families.proofs.sway_families.Reads as sway-families-reads
-use Rattle.move_table.proofs.level_at.Reads as level-at-reads
 
 level-at-requires : tie.Need-level-at-requires
 level-at-requires c κs = search needs

@@ -1,22 +1,12 @@
 -- `move_families::sway_families` meets its contract.
-use Prim.Native.Nat.{ℕ, zero, suc, _≤_, _<_, _-_, _+_, _*_, _^_}
-use mathlib.Core.Path.{_≡_, refl, sym, ap, _∙_}
-use mathlib.Core.Logic.{⊎-elim}
-use mathlib.Core.List.{List, [], _∷_, _++_}
-use mathlib.Core.Bool.{Bool, true, false}
+use Prim.Native.Nat.{_-_}
+use mathlib.Core.Path.{_≡_, refl, _∙_}
 use native.Mathlib.Omega.{arith}
-use native.Mathlib.Numerals.{add-one}
 use borrow.Author.Needs.{needs}
-use borrow.Author.Tests.{lt-ltb, le-ltb, le-leb, lt-leb, eq-eqb, ne-eqb, not-true, not-false}
-use lib.ListN.{length, take, drop, getD, set}
+use lib.ListN.{length}
 use Rattle.move_families.proofs.Turn.{Left, left-all, run-short, left-run, left-none}
 use Rattle.move_families.proofs.sway_families.Statement.{statement}
 use Rattle.move_families.proofs.sway_families.Tie as tie
-use Rattle.move_families.proofs.sway_families.Reads as reads
-use Rattle.move_families.proofs.sway_families.Lts as lts
-use Rattle.move_families.proofs.marks.sway_run.Reads as sway-run-reads
-use Rattle.sets.proofs.least.Reads as least-reads
-use Rattle.std.proofs.num.wrapping_add_usize.Reads as wrapping-add-usize-reads
 
 abbrev Inv-loop : tie.InvT-loop
 Inv-loop fs b s t₀ looks₀ i₀ t looks i =

@@ -4,25 +4,14 @@ use mathlib.Core.Bool.{cond}
 use Rattle.sets.specs.Sets.{size}
 use Rattle.sets.proofs.SizeMembers.{size-few}
 use Rattle.move_halves.specs.Halves.{looksBy}
-use Prim.Native.Nat.{ℕ, zero, suc, _≤_, _<_, _-_, _+_, _*_, _^_}
-use mathlib.Core.Path.{_≡_, refl, sym, ap, _∙_}
-use mathlib.Core.Logic.{⊎-elim}
-use mathlib.Core.List.{List, [], _∷_, _++_}
+use Prim.Native.Nat.{ℕ, _≤_, _+_}
+use mathlib.Core.Path.{ap, _∙_}
 use mathlib.Core.Bool.{Bool, true, false}
 use native.Mathlib.Omega.{arith}
-use native.Mathlib.Numerals.{add-one}
 use borrow.Author.Needs.{needs}
-use borrow.Author.Tests.{lt-ltb, le-ltb, le-leb, lt-leb, eq-eqb, ne-eqb, not-true, not-false}
-use lib.ListN.{length, take, drop, getD, set}
-use borrow.Author.Needs.{needs}
+use borrow.Author.Tests.{eq-eqb, ne-eqb}
 use Rattle.move_halves.proofs.looks_by.Statement.{statement}
 use Rattle.move_halves.proofs.looks_by.Tie as tie
-use Rattle.move_halves.proofs.looks_by.Reads as reads
-use Rattle.move_halves.proofs.looks_by.Lts as lts
-use Rattle.move_halves.proofs.counted.Reads as counted-reads
-use Rattle.move_halves.proofs.near_of.Reads as near-of-reads
-use Rattle.move_halves.proofs.seen_of.Reads as seen-of-reads
-use Rattle.move_halves.proofs.states_of.Reads as states-of-reads
 
 at-most : (t : Bool) (m : ℕ) → cond t m 0 ≤ m
 at-most true m = omega arith

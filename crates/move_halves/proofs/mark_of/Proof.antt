@@ -1,31 +1,18 @@
 -- `move_halves::mark_of` meets its contract.
-use Prim.Native.Nat.{ℕ, zero, suc, _≤_, _<_, _-_, _+_, _*_, _^_}
-use mathlib.Core.Path.{_≡_, refl, sym, ap, _∙_}
-use mathlib.Core.Logic.{⊎-elim}
-use mathlib.Core.List.{List, [], _∷_, _++_}
-use mathlib.Core.Bool.{Bool, true, false}
-use native.Mathlib.Omega.{arith}
-use native.Mathlib.Numerals.{add-one}
-use borrow.Author.Needs.{needs}
-use borrow.Author.Tests.{lt-ltb, le-ltb, le-leb, lt-leb, eq-eqb, ne-eqb, not-true, not-false}
-use lib.ListN.{length, take, drop, getD, set}
+use Prim.Native.Nat.{_<_}
+use mathlib.Core.Path.{_≡_, ap, _∙_}
+use mathlib.Core.List.{[]}
+use mathlib.Core.Bool.{Bool}
 use borrow.Author.Needs.{needs}
 use lib.Bits.{bitAnd, bitOr, xor-zero-l, or-lt}
 use lib.Dec.{eqb}
 use mathlib.Core.Path.{ap₂}
 use mathlib.Core.Bool.{_||_, not}
-use Rattle.sets.specs.Sets.{has, only}
+use Rattle.sets.specs.Sets.{only}
 use Rattle.families.specs.Families.{without}
-use Rattle.move_halves.specs.Halves.{nearAt}
 use Rattle.move_halves.proofs.Moving.{member-below, member-by, by-near, by-mark}
 use Rattle.move_halves.proofs.mark_of.Statement.{statement}
 use Rattle.move_halves.proofs.mark_of.Tie as tie
-use Rattle.move_halves.proofs.mark_of.Reads as reads
-use Rattle.move_halves.proofs.mark_of.Lts as lts
-use Rattle.families.proofs.without_of.Reads as without-of-reads
-use Rattle.move_halves.proofs.side_of.Reads as side-of-reads
-use Rattle.sets.proofs.few.Reads as few-reads
-use Rattle.sets.proofs.flipped.Reads as flipped-reads
 
 flipped-requires : tie.Need-flipped-requires
 flipped-requires c κs = search needs

@@ -1,14 +1,9 @@
 -- `move_halves::move_family` meets its contract.
-use Prim.Native.Nat.{ℕ, zero, suc, _≤_, _<_, _-_, _+_, _*_, _^_}
-use mathlib.Core.Path.{_≡_, refl, sym, ap, _∙_}
-use mathlib.Core.Logic.{⊎-elim}
-use mathlib.Core.List.{List, [], _∷_, _++_}
-use mathlib.Core.Bool.{Bool, true, false}
+use Prim.Native.Nat.{_<_}
+use mathlib.Core.Path.{_≡_, sym, ap, _∙_}
 use native.Mathlib.Omega.{arith}
-use native.Mathlib.Numerals.{add-one}
 use borrow.Author.Needs.{needs}
-use borrow.Author.Tests.{lt-ltb, le-ltb, le-leb, lt-leb, eq-eqb, ne-eqb, not-true, not-false}
-use lib.ListN.{length, take, drop, getD, set}
+use borrow.Author.Tests.{not-true, not-false}
 use lib.Bits.{xor-zero-l}
 use borrow.Author.Tests.{eqb-true, eqb-false}
 use Rattle.sets.specs.Sets.{has, only}
@@ -17,16 +12,6 @@ use Rattle.families.specs.Families.{without}
 use Rattle.move_halves.proofs.Moving.{member-below, move-missing, by-common, by-outside}
 use Rattle.move_halves.proofs.move_family.Statement.{statement}
 use Rattle.move_halves.proofs.move_family.Tie as tie
-use Rattle.move_halves.proofs.move_family.Reads as reads
-use Rattle.move_halves.proofs.move_family.Lts as lts
-use Rattle.families.proofs.without_of.Reads as without-of-reads
-use Rattle.move_halves.proofs.counted.Reads as counted-reads
-use Rattle.move_halves.proofs.move_in.Reads as move-in-reads
-use Rattle.move_halves.proofs.move_out.Reads as move-out-reads
-use Rattle.move_halves.proofs.near_of.Reads as near-of-reads
-use Rattle.move_halves.proofs.side_of.Reads as side-of-reads
-use Rattle.sets.proofs.flipped.Reads as flipped-reads
-use Rattle.sets.proofs.member.Reads as member-reads
 
 flipped-requires : tie.Need-flipped-requires
 flipped-requires c κs = search needs

@@ -1,21 +1,7 @@
 -- `move_halves::move_in` meets its contract.
-use Prim.Native.Nat.{ℕ, zero, suc, _≤_, _<_, _-_, _+_, _*_, _^_}
-use mathlib.Core.Path.{_≡_, refl, sym, ap, _∙_}
-use mathlib.Core.Logic.{⊎-elim}
-use mathlib.Core.List.{List, [], _∷_, _++_}
-use mathlib.Core.Bool.{Bool, true, false}
-use native.Mathlib.Omega.{arith}
-use native.Mathlib.Numerals.{add-one}
-use borrow.Author.Needs.{needs}
-use borrow.Author.Tests.{lt-ltb, le-ltb, le-leb, lt-leb, eq-eqb, ne-eqb, not-true, not-false}
-use lib.ListN.{length, take, drop, getD, set}
 use borrow.Author.Needs.{needs}
 use Rattle.move_halves.proofs.move_in.Statement.{statement}
 use Rattle.move_halves.proofs.move_in.Tie as tie
-use Rattle.move_halves.proofs.move_in.Reads as reads
-use Rattle.move_halves.proofs.move_in.Lts as lts
-use Rattle.move_halves.proofs.looks_by.Reads as looks-by-reads
-use Rattle.move_halves.proofs.put_worth.Reads as put-worth-reads
 
 put-worth-requires : tie.Need-put-worth-requires
 put-worth-requires c κs = search needs

@@ -1,5 +1,4 @@
 -- `move_halves::move_out` meets its contract.
-use Prim.Native.Nat.{_-_}
 use borrow.Author.Needs.{needs}
 use Rattle.move_halves.proofs.move_out.Statement.{statement}
 use Rattle.move_halves.proofs.move_out.Tie as tie

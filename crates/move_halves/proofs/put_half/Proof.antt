@@ -1,23 +1,9 @@
 -- `move_halves::put_half` meets its contract.
 use Rattle.move_halves.proofs.Halving.{halved-none, halved-one, halved-more}
-use Prim.Native.Nat.{ℕ, zero, suc, _≤_, _<_, _-_, _+_, _*_, _^_}
-use mathlib.Core.Path.{_≡_, refl, sym, ap, _∙_}
-use mathlib.Core.Logic.{⊎-elim}
-use mathlib.Core.List.{List, [], _∷_, _++_}
-use mathlib.Core.Bool.{Bool, true, false}
-use native.Mathlib.Omega.{arith}
-use native.Mathlib.Numerals.{add-one}
-use borrow.Author.Needs.{needs}
-use borrow.Author.Tests.{lt-ltb, le-ltb, le-leb, lt-leb, eq-eqb, ne-eqb, not-true, not-false}
-use lib.ListN.{length, take, drop, getD, set}
+use mathlib.Core.Path.{sym, _∙_}
 use borrow.Author.Needs.{needs}
 use Rattle.move_halves.proofs.put_half.Statement.{statement}
 use Rattle.move_halves.proofs.put_half.Tie as tie
-use Rattle.move_halves.proofs.put_half.Reads as reads
-use Rattle.move_halves.proofs.put_half.Lts as lts
-use Rattle.move_halves.proofs.signed_of.Reads as signed-of-reads
-use Rattle.sets.proofs.few.Reads as few-reads
-use Rattle.move_table.proofs.raise.Reads as raise-reads
 
 signed-of-requires : tie.Need-signed-of-requires
 signed-of-requires c κs = search needs

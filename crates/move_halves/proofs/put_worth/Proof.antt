@@ -1,24 +1,10 @@
 -- `move_halves::put_worth` meets its contract.
-use Prim.Native.Nat.{ℕ, zero, suc, _≤_, _<_, _-_, _+_, _*_, _^_}
-use mathlib.Core.Path.{_≡_, refl, sym, ap, _∙_}
-use mathlib.Core.Logic.{⊎-elim}
-use mathlib.Core.List.{List, [], _∷_, _++_}
-use mathlib.Core.Bool.{Bool, true, false}
-use native.Mathlib.Omega.{arith}
-use native.Mathlib.Numerals.{add-one}
-use borrow.Author.Needs.{needs}
-use borrow.Author.Tests.{lt-ltb, le-ltb, le-leb, lt-leb, eq-eqb, ne-eqb, not-true, not-false}
-use lib.ListN.{length, take, drop, getD, set}
+use mathlib.Core.Path.{sym, _∙_}
 use borrow.Author.Needs.{needs}
 use Rattle.move_halves.specs.Halves.{worth}
 use Rattle.move_halves.proofs.Far.{halved-far}
 use Rattle.move_halves.proofs.put_worth.Statement.{statement}
 use Rattle.move_halves.proofs.put_worth.Tie as tie
-use Rattle.move_halves.proofs.put_worth.Reads as reads
-use Rattle.move_halves.proofs.put_worth.Lts as lts
-use Rattle.move_halves.proofs.put_half.Reads as put-half-reads
-use Rattle.move_halves.proofs.worth_of.Reads as worth-of-reads
-use Rattle.sets.proofs.few.Reads as few-reads
 
 few-requires : tie.Need-few-requires
 few-requires c κs = search needs

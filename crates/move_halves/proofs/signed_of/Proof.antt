@@ -1,5 +1,4 @@
 -- `move_halves::signed_of` meets its contract.
-use Prim.Native.Nat.{_-_}
 use borrow.Author.Needs.{needs}
 use Rattle.move_halves.proofs.signed_of.Statement.{statement}
 use Rattle.move_halves.proofs.signed_of.Tie as tie

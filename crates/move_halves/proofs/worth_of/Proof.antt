@@ -1,5 +1,4 @@
 -- `move_halves::worth_of` meets its contract.
-use Prim.Native.Nat.{_-_}
 use borrow.Author.Needs.{needs}
 use borrow.Author.Tests.{eq-eqb, ne-eqb}
 use Rattle.move_halves.proofs.worth_of.Statement.{statement}

@@ -2,23 +2,13 @@
 use Prim.Native.Nat.{min}
 use Rattle.move_pairs.specs.Pairs.{pairsAdded}
 use Rattle.move_pairs.proofs.Filling.{filledFrom, filled-first, filled-more, filled-end}
-use Prim.Native.Nat.{ℕ, zero, suc, _≤_, _<_, _-_, _+_, _*_, _^_}
+use Prim.Native.Nat.{ℕ, _≤_, _<_, _-_, _+_}
 use mathlib.Core.Path.{_≡_, refl, sym, ap, _∙_}
-use mathlib.Core.Logic.{⊎-elim}
-use mathlib.Core.List.{List, [], _∷_, _++_}
-use mathlib.Core.Bool.{Bool, true, false}
 use native.Mathlib.Omega.{arith}
-use native.Mathlib.Numerals.{add-one}
 use borrow.Author.Needs.{needs}
-use borrow.Author.Tests.{lt-ltb, le-ltb, le-leb, lt-leb, eq-eqb, ne-eqb, not-true, not-false}
-use lib.ListN.{length, take, drop, getD, set}
+use lib.ListN.{length}
 use Rattle.move_pairs.proofs.fill_pairs.Statement.{statement}
 use Rattle.move_pairs.proofs.fill_pairs.Tie as tie
-use Rattle.move_pairs.proofs.fill_pairs.Reads as reads
-use Rattle.move_pairs.proofs.fill_pairs.Lts as lts
-use Rattle.move_pairs.proofs.add_pairs.Reads as add-pairs-reads
-use Rattle.move_pairs.proofs.partners_of.Reads as partners-of-reads
-use Rattle.sets.proofs.least.Reads as least-reads
 
 abbrev Inv-loop : tie.InvT-loop
 Inv-loop n bits b t₀ last i₀ t i =

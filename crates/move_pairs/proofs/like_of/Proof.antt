@@ -1,22 +1,11 @@
 -- `move_pairs::like_of` meets its contract.
 use lib.Dec.{eqb}
 use Rattle.sets.specs.Sets.{has}
-use Prim.Native.Nat.{ℕ, zero, suc, _≤_, _<_, _-_, _+_, _*_, _^_}
-use mathlib.Core.Path.{_≡_, refl, sym, ap, _∙_}
-use mathlib.Core.Logic.{⊎-elim}
-use mathlib.Core.List.{List, [], _∷_, _++_}
-use mathlib.Core.Bool.{Bool, true, false}
-use native.Mathlib.Omega.{arith}
-use native.Mathlib.Numerals.{add-one}
-use borrow.Author.Needs.{needs}
-use borrow.Author.Tests.{lt-ltb, le-ltb, le-leb, lt-leb, eq-eqb, ne-eqb, not-true, not-false}
-use lib.ListN.{length, take, drop, getD, set}
+use mathlib.Core.Path.{_≡_, refl, sym, _∙_}
+use mathlib.Core.Bool.{true, false}
 use borrow.Author.Needs.{needs}
 use Rattle.move_pairs.proofs.like_of.Statement.{statement}
 use Rattle.move_pairs.proofs.like_of.Tie as tie
-use Rattle.move_pairs.proofs.like_of.Reads as reads
-use Rattle.move_pairs.proofs.like_of.Lts as lts
-use Rattle.sets.proofs.member.Reads as member-reads
 
 member-requires : tie.Need-member-requires
 member-requires c κs = search needs

@@ -7,24 +7,14 @@ use borrow.Author.Tests.{eqb-true}
 use Rattle.sets.specs.Sets.{has, flip, everyone}
 use Rattle.move_halves.proofs.Moving.{member-below}
 use Rattle.move_pairs.specs.Pairs.{othersOf}
-use Prim.Native.Nat.{ℕ, zero, suc, _≤_, _<_, _-_, _+_, _*_, _^_}
+use Prim.Native.Nat.{ℕ, _≤_, _<_, _^_}
 use mathlib.Core.Path.{_≡_, refl, sym, ap, _∙_}
-use mathlib.Core.Logic.{⊎-elim}
-use mathlib.Core.List.{List, [], _∷_, _++_}
-use mathlib.Core.Bool.{Bool, true, false}
+use mathlib.Core.Bool.{true, false}
 use native.Mathlib.Omega.{arith}
-use native.Mathlib.Numerals.{add-one}
 use borrow.Author.Needs.{needs}
-use borrow.Author.Tests.{lt-ltb, le-ltb, le-leb, lt-leb, eq-eqb, ne-eqb, not-true, not-false}
-use lib.ListN.{length, take, drop, getD, set}
-use borrow.Author.Needs.{needs}
+use borrow.Author.Tests.{not-true, not-false}
 use Rattle.move_pairs.proofs.others_of.Statement.{statement}
 use Rattle.move_pairs.proofs.others_of.Tie as tie
-use Rattle.move_pairs.proofs.others_of.Reads as reads
-use Rattle.move_pairs.proofs.others_of.Lts as lts
-use Rattle.sets.proofs.everyone_of.Reads as everyone-of-reads
-use Rattle.sets.proofs.flipped.Reads as flipped-reads
-use Rattle.sets.proofs.member.Reads as member-reads
 
 all-lt : (n : ℕ) → everyone (min n 64) < 2 ^ 64
 all-lt n =

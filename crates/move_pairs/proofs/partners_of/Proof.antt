@@ -7,22 +7,15 @@ use Rattle.sets.specs.Sets.{has}
 use Rattle.move_halves.specs.Halves.{ones, zeros}
 use Rattle.families.proofs.Walk.{cons-left}
 use Rattle.move_pairs.specs.Pairs.{likeOf, alikeIn, partnersOf}
-use Prim.Native.Nat.{ℕ, zero, suc, _≤_, _<_, _-_, _+_, _*_, _^_}
+use Prim.Native.Nat.{ℕ, _≤_, _<_, _-_, _+_}
 use mathlib.Core.Path.{_≡_, refl, sym, ap, _∙_}
-use mathlib.Core.Logic.{⊎-elim}
-use mathlib.Core.List.{List, [], _∷_, _++_}
+use mathlib.Core.List.{List, [], _∷_}
 use mathlib.Core.Bool.{Bool, true, false}
 use native.Mathlib.Omega.{arith}
-use native.Mathlib.Numerals.{add-one}
 use borrow.Author.Needs.{needs}
-use borrow.Author.Tests.{lt-ltb, le-ltb, le-leb, lt-leb, eq-eqb, ne-eqb, not-true, not-false}
-use lib.ListN.{length, take, drop, getD, set}
+use lib.ListN.{length, drop, getD}
 use Rattle.move_pairs.proofs.partners_of.Statement.{statement}
 use Rattle.move_pairs.proofs.partners_of.Tie as tie
-use Rattle.move_pairs.proofs.partners_of.Reads as reads
-use Rattle.move_pairs.proofs.partners_of.Lts as lts
-use Rattle.move_pairs.proofs.like_of.Reads as like-of-reads
-use Rattle.move_pairs.proofs.others_of.Reads as others-of-reads
 
 -- one bit more is read
 alike-more : (bits : List ℕ) (i s p : ℕ) → i < length bits → alikeIn (drop i bits) s p ≡ alikeIn (drop (i + 1) bits) s (likeOf p (getD bits i 0) s)

@@ -1,6 +1,5 @@
 -- `move_pairs::put_pairs` meets its contract.
 use Rattle.move_pairs.specs.Pairs.{pairsPut}
-use Prim.Native.Nat.{_-_}
 use borrow.Author.Needs.{needs}
 use Rattle.move_pairs.proofs.put_pairs.Statement.{statement}
 use Rattle.move_pairs.proofs.put_pairs.Tie as tie

@@ -1,23 +1,11 @@
 -- `move_pairs::sway_pairs` meets its contract.
 use Rattle.sets.specs.Sets.{size}
 use Rattle.move_pairs.specs.Pairs.{pairsSwayed}
-use Prim.Native.Nat.{ℕ, zero, suc, _≤_, _<_, _-_, _+_, _*_, _^_}
-use mathlib.Core.Path.{_≡_, refl, sym, ap, _∙_}
-use mathlib.Core.Logic.{⊎-elim}
-use mathlib.Core.List.{List, [], _∷_, _++_}
-use mathlib.Core.Bool.{Bool, true, false}
-use native.Mathlib.Omega.{arith}
-use native.Mathlib.Numerals.{add-one}
+use Prim.Native.Nat.{ℕ}
+use mathlib.Core.Path.{ap, _∙_}
 use borrow.Author.Needs.{needs}
-use borrow.Author.Tests.{lt-ltb, le-ltb, le-leb, lt-leb, eq-eqb, ne-eqb, not-true, not-false}
-use lib.ListN.{length, take, drop, getD, set}
 use Rattle.move_pairs.proofs.sway_pairs.Statement.{statement}
 use Rattle.move_pairs.proofs.sway_pairs.Tie as tie
-use Rattle.move_pairs.proofs.sway_pairs.Reads as reads
-use Rattle.move_pairs.proofs.sway_pairs.Lts as lts
-use Rattle.move_pairs.proofs.partners_of.Reads as partners-of-reads
-use Rattle.move_pairs.proofs.sway_partners.Reads as sway-partners-reads
-use Rattle.sets.proofs.size_of.Reads as size-of-reads
 
 partners-of-requires : tie.Need-partners-of-requires
 partners-of-requires c κs = search needs

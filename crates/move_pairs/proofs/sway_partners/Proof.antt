@@ -2,23 +2,11 @@
 use lib.Dec.{eqb}
 use Rattle.sets.specs.Sets.{has}
 use Rattle.move_pairs.specs.Pairs.{pairsSwayed}
-use Prim.Native.Nat.{ℕ, zero, suc, _≤_, _<_, _-_, _+_, _*_, _^_}
-use mathlib.Core.Path.{_≡_, refl, sym, ap, _∙_}
-use mathlib.Core.Logic.{⊎-elim}
-use mathlib.Core.List.{List, [], _∷_, _++_}
-use mathlib.Core.Bool.{Bool, true, false}
-use native.Mathlib.Omega.{arith}
-use native.Mathlib.Numerals.{add-one}
-use borrow.Author.Needs.{needs}
-use borrow.Author.Tests.{lt-ltb, le-ltb, le-leb, lt-leb, eq-eqb, ne-eqb, not-true, not-false}
-use lib.ListN.{length, take, drop, getD, set}
+use mathlib.Core.Path.{_≡_, sym, _∙_}
+use mathlib.Core.Bool.{true, false}
 use borrow.Author.Needs.{needs}
 use Rattle.move_pairs.proofs.sway_partners.Statement.{statement}
 use Rattle.move_pairs.proofs.sway_partners.Tie as tie
-use Rattle.move_pairs.proofs.sway_partners.Reads as reads
-use Rattle.move_pairs.proofs.sway_partners.Lts as lts
-use Rattle.move_pairs.proofs.put_pairs.Reads as put-pairs-reads
-use Rattle.sets.proofs.member.Reads as member-reads
 
 member-requires : tie.Need-member-requires
 member-requires c κs = search needs

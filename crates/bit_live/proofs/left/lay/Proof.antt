@@ -1,21 +1,13 @@
 -- `bit_live::lay` meets its contract.
 use lib.ListN.{length-set}
 use Rattle.bit_live.specs.Left.{laid}
-use Prim.Native.Nat.{ℕ, zero, suc, _≤_, _<_, _-_, _+_, _*_, _^_}
-use mathlib.Core.Path.{_≡_, refl, sym, ap, _∙_}
-use mathlib.Core.Logic.{⊎-elim}
-use mathlib.Core.List.{List, [], _∷_, _++_}
-use mathlib.Core.Bool.{Bool, true, false}
+use Prim.Native.Nat.{_+_}
+use mathlib.Core.Path.{refl}
 use native.Mathlib.Omega.{arith}
-use native.Mathlib.Numerals.{add-one}
 use borrow.Author.Needs.{needs}
-use borrow.Author.Tests.{lt-ltb, le-ltb, le-leb, lt-leb, eq-eqb, ne-eqb, not-true, not-false}
-use lib.ListN.{length, take, drop, getD, set}
-use borrow.Author.Needs.{needs}
+use lib.ListN.{set}
 use Rattle.bit_live.proofs.left.lay.Statement.{statement}
 use Rattle.bit_live.proofs.left.lay.Tie as tie
-use Rattle.bit_live.proofs.left.lay.Reads as reads
-use Rattle.bit_live.proofs.left.lay.Lts as lts
 
 mul-fs : tie.Need-mul-fs
 mul-fs c = search needs

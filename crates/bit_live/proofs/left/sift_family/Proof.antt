@@ -1,26 +1,14 @@
 -- `bit_live::sift_family` meets its contract.
 use Rattle.bit_live.specs.Left.{laid, staysAt}
 use Rattle.bit_live.proofs.Family.{by-family}
-use Prim.Native.Nat.{ℕ, zero, suc, _≤_, _<_, _-_, _+_, _*_, _^_}
+use Prim.Native.Nat.{ℕ, _+_}
 use mathlib.Core.Path.{_≡_, refl, sym, ap, _∙_}
-use mathlib.Core.Logic.{⊎-elim}
-use mathlib.Core.List.{List, [], _∷_, _++_}
-use mathlib.Core.Bool.{Bool, true, false}
-use native.Mathlib.Omega.{arith}
-use native.Mathlib.Numerals.{add-one}
+use mathlib.Core.List.{List}
+use mathlib.Core.Bool.{true, false}
 use borrow.Author.Needs.{needs}
-use borrow.Author.Tests.{lt-ltb, le-ltb, le-leb, lt-leb, eq-eqb, ne-eqb, not-true, not-false}
-use lib.ListN.{length, take, drop, getD, set}
-use borrow.Author.Needs.{needs}
+use lib.ListN.{getD}
 use Rattle.bit_live.proofs.left.sift_family.Statement.{statement}
 use Rattle.bit_live.proofs.left.sift_family.Tie as tie
-use Rattle.bit_live.proofs.left.sift_family.Reads as reads
-use Rattle.bit_live.proofs.left.sift_family.Lts as lts
-use Rattle.bit_live.proofs.left.lay.Reads as lay-reads
-use Rattle.bit_live.proofs.left.left_by.Reads as left-by-reads
-use Rattle.bit_live.proofs.left.stays_by.Reads as stays-by-reads
-use Rattle.families.proofs.without_of.Reads as without-of-reads
-use Rattle.move_halves.proofs.side_of.Reads as side-of-reads
 
 mul-all : tie.Need-mul-all
 mul-all c = search needs

@@ -1,22 +1,14 @@
 -- `move_families::marks::marks_of` meets its contract.
-use Prim.Native.Nat.{ℕ, zero, suc, _≤_, _<_, _-_, _+_, _*_, _^_}
-use mathlib.Core.Path.{_≡_, refl, sym, ap, _∙_}
-use mathlib.Core.Logic.{⊎-elim}
-use mathlib.Core.List.{List, [], _∷_, _++_}
-use mathlib.Core.Bool.{Bool, true, false}
+use Prim.Native.Nat.{_≤_, _-_}
+use mathlib.Core.Path.{_≡_}
 use native.Mathlib.Omega.{arith}
-use native.Mathlib.Numerals.{add-one}
 use borrow.Author.Needs.{needs}
-use borrow.Author.Tests.{lt-ltb, le-ltb, le-leb, lt-leb, eq-eqb, ne-eqb, not-true, not-false}
-use lib.ListN.{length, take, drop, getD, set}
+use lib.ListN.{length}
 use Prim.Native.Nat.{_/_}
 use Rattle.move_families.specs.Marks.{nearOf, marksFrom}
 use Rattle.move_families.proofs.Marked.{digit-below, marks-none, marks-room, marks-turn, marks-done}
 use Rattle.move_families.proofs.marks.marks_of.Statement.{statement}
 use Rattle.move_families.proofs.marks.marks_of.Tie as tie
-use Rattle.move_families.proofs.marks.marks_of.Reads as reads
-use Rattle.move_families.proofs.marks.marks_of.Lts as lts
-use Rattle.move_halves.proofs.mark_of.Reads as mark-of-reads
 
 abbrev Inv-loop : tie.InvT-loop
 Inv-loop run b s word₀ k₀ word k =

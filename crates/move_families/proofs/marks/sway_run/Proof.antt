@@ -1,27 +1,16 @@
 -- `move_families::marks::sway_run` meets its contract.
-use Prim.Native.Nat.{ℕ, zero, suc, _≤_, _<_, _-_, _+_, _*_, _^_}
-use mathlib.Core.Path.{_≡_, refl, sym, ap, _∙_}
-use mathlib.Core.Logic.{⊎-elim}
-use mathlib.Core.List.{List, [], _∷_, _++_}
-use mathlib.Core.Bool.{Bool, true, false}
+use Prim.Native.Nat.{_<_}
+use mathlib.Core.Path.{_≡_, refl, _∙_}
+use mathlib.Core.Bool.{true}
 use native.Mathlib.Omega.{arith}
-use native.Mathlib.Numerals.{add-one}
 use borrow.Author.Needs.{needs}
-use borrow.Author.Tests.{lt-ltb, le-ltb, le-leb, lt-leb, eq-eqb, ne-eqb, not-true, not-false}
-use lib.ListN.{length, take, drop, getD, set}
+use lib.ListN.{length}
 use Prim.Native.Nat.{_/_}
 use Rattle.sets.specs.Sets.{size}
 use Rattle.move_families.specs.Marks.{nearOf}
 use Rattle.move_families.proofs.Marked.{Marked, marked-all, marked-lowest, marked-turn, marked-fewer, marked-none}
 use Rattle.move_families.proofs.marks.sway_run.Statement.{statement}
 use Rattle.move_families.proofs.marks.sway_run.Tie as tie
-use Rattle.move_families.proofs.marks.sway_run.Reads as reads
-use Rattle.move_families.proofs.marks.sway_run.Lts as lts
-use Rattle.move_families.proofs.marks.marks_of.Reads as marks-of-reads
-use Rattle.move_halves.proofs.move_family.Reads as move-family-reads
-use Rattle.sets.proofs.lowest.Reads as lowest-reads
-use Rattle.sets.proofs.without_lowest.Reads as without-lowest-reads
-use Rattle.std.proofs.num.wrapping_add_usize.Reads as wrapping-add-usize-reads
 
 abbrev Inv-loop : tie.InvT-loop
 Inv-loop run b s t₀ marks₀ looks₀ t marks looks =

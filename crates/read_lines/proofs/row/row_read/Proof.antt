@@ -1,5 +1,5 @@
 -- `read_lines::row::row_read` meets its contract: the first field that is out of order refuses the line.
-use mathlib.Core.Path.{_≡_, refl, sym, ap, _∙_}
+use mathlib.Core.Path.{refl, sym, ap, _∙_}
 use native.Mathlib.Omega.{arith}
 use borrow.Author.Needs.{needs}
 use Rattle.rules.specs.Limits.{most-inputs, most-outputs}
