@@ -1,8 +1,7 @@
 -- How many requirements there are: of a family, of a list of families, and of the live pairs.
-use mathlib.Core.Path.{_≡_, refl, sym, ap, ap₂, _∙_}
-use mathlib.Core.List.{List, _∷_, map}
+use mathlib.Core.Path.{_≡_, sym, ap, ap₂, _∙_}
+use mathlib.Core.List.{List, map}
 use Prim.Native.Nat.{ℕ, zero, suc, _+_, _-_, _%_, _^_, _≤_, _<_, min}
-use native.Mathlib.Nat.{add-zero}
 use native.Mathlib.Omega.{arith}
 use lib.ListN.{length, getD, drop, length-append, length-map}
 use lib.Pow.{pow-pos}
@@ -14,38 +13,14 @@ use Rattle.sets.proofs.Size.{size-total}
 use Rattle.sets.proofs.SizeMembers.{size-few}
 use Rattle.families.specs.Families.{without, inside, joined, requirementsOf, requirementsIn}
 use Rattle.families.proofs.Parts.{has-rest, rest-lt}
-use Rattle.families.proofs.Inside.{inside-in, inside-out}
 use Rattle.families.proofs.Walk.{family-left, short-left}
+use Rattle.families.proofs.Walking.{walked-total, walked-length}
 use Rattle.move_families.proofs.Turn.{looks-add}
 use Rattle.move_pairs.specs.Pairs.{livePairs, partnersOf}
 use Rattle.move_pairs.proofs.Partners.{pairsAmong, pairsOf, Partners}
 use Rattle.move_pairs.proofs.Pair.{pair}
 use Rattle.move_pairs.proofs.Agreed.{partnersBy, partners-at, partners-table, partners-pairs}
 use Rattle.bit_live.proofs.Starts.{families-short, nobody-from, none-behind}
-
--- the members of a set among k states from a on
-inside-count : (p k a : ℕ) → length (inside p (statesFrom a k)) ≡ total k (λ d. has p (a + d))
-unfolding inside statesFrom total
-inside-count p zero a = refl
-inside-count p (suc k) a = go (has p a) refl (inside-count p k (suc a))
-  where
-    at : (d : ℕ) → suc a + d ≡ a + suc d
-    at d = omega arith
-
-    later : total k (λ d. has p (suc a + d)) ≡ total k (λ d. has p (a + suc d))
-    later = total-same k (λ d. has p (suc a + d)) (λ d. has p (a + suc d)) (λ d _. ap (has p) (at d))
-
-    first : has p (a + 0) ≡ has p a
-    first = ap (has p) (add-zero a)
-
-    go : (d : ℕ) → has p a ≡ d → length (inside p (statesFrom (suc a) k)) ≡ total k (λ d. has p (suc a + d)) → length (inside p (a ∷ statesFrom (suc a) k)) ≡ has p (a + 0) + total k (λ d. has p (a + suc d))
-    go zero e r =
-        let z : has p (a + 0) ≡ 0 = first ∙ e in
-        ap length (inside-out p a (statesFrom (suc a) k) e) ∙ r ∙ later ∙ omega arith
-    go (suc d) e r =
-        let i : has p a ≡ 1 = omega (arith, has-lt p a) in
-        let z : has p (a + 0) ≡ 1 = first ∙ i in
-        ap length (inside-in p a (statesFrom (suc a) k) i) ∙ ap suc (r ∙ later) ∙ omega arith
 
 -- a sum in two parts
 total-parts : (f : ℕ → ℕ) (a k : ℕ) → total (a + k) f ≡ total a f + total k (λ d. f (a + d))
@@ -71,19 +46,13 @@ total-parts f (suc a) k =
     assoc : (x y z : ℕ) → x + (y + z) ≡ x + y + z
     assoc x y z = omega arith
 
--- all its members, and those from a on
-pub all-count : (p : ℕ) → p < 2 ^ 64 → length (inside p (statesFrom 0 64)) ≡ size p
-all-count p h = inside-count p 64 0 ∙ total-same 64 (λ d. has p (0 + d)) (has p) (λ d _. ap (has p) (none d)) ∙ sym (size-total 64 p h)
-  where
-    none : (d : ℕ) → 0 + d ≡ d
-    none d = omega arith
-
+-- the members from a on
 above-count : (p a k : ℕ) → p < 2 ^ 64 → a + k ≡ 64 → length (inside p (statesFrom a k)) ≡ size (without p (everyone a))
 above-count p a k h e =
     let q : ℕ = without p (everyone a) in
     let z : total a (has q) ≡ 0 = none-total a (has q) (λ t l. omega (arith, has-rest p (everyone a) t, has-all a t l, has-lt p t)) in
     let s : total (a + k) (has q) ≡ total a (has q) + total k (λ d. has q (a + d)) = total-parts (has q) a k in
-    inside-count p k a
+    walked-total p a k
     ∙ total-same k (λ d. has p (a + d)) (λ d. has q (a + d))
     (λ d _. sym (has-rest p (everyone a) (a + d) ∙ behind (has p (a + d)) (has (everyone a) (a + d)) (has-high a (everyone a) (a + d) all-lt (omega arith)) (has-lt p (a + d))))
     ∙ last (total k (λ d. has q (a + d))) (total a (has q)) (total (a + k) (has q)) z s
@@ -110,7 +79,7 @@ module _ (all flip out : ℕ) where
   unfolding requirementsOf
   count-group o h =
       rw (ne-eqb out 0 o)
-      (length-map (inside (without out all) (statesFrom 0 64)) (joined all flip) ∙ all-count (without out all) (rest-lt 64 out all h))
+      (length-map (inside (without out all) (statesFrom 0 64)) (joined all flip) ∙ walked-length (without out all) (rest-lt 64 out all h))
 
 -- ---- a list of families, modulo 2 ^ 64: what is left of it is still to be counted
 

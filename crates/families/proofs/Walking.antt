@@ -59,7 +59,7 @@ module _ (m s : ℕ) (fits : m < 2 ^ 64) (some : m ≡ 0 → ⊥) (low : s ≡ t
 
 -- ---- as many as the set has
 
-walked-total : (m a k : ℕ) → length (inside m (statesFrom a k)) ≡ total k (λ i. has m (a + i))
+pub walked-total : (m a k : ℕ) → length (inside m (statesFrom a k)) ≡ total k (λ i. has m (a + i))
 unfolding inside statesFrom total
 walked-total m a zero = refl
 walked-total m a (suc k) = go (has m a) refl (walked-total m (suc a) k ∙ total-same k (λ i. has m (suc a + i)) (λ i. has m (a + suc i)) (λ i _. ap (has m) (next i)))

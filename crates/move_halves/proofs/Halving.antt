@@ -1,12 +1,12 @@
 -- The shares of a half, by how many of its side must change, as code goes by them.
 use mathlib.Core.Path.{_≡_, refl, sym, ap, _∙_}
-use mathlib.Core.Bool.{Bool, true, false, not}
+use mathlib.Core.Bool.{Bool, true, not}
 use mathlib.Core.List.{List}
-use Prim.Native.Nat.{ℕ, zero, suc, _^_, _≤_, _<_}
+use Prim.Native.Nat.{ℕ, _^_, _≤_, _<_}
 use native.Mathlib.Decide.{ℕ-discrete}
 use native.Mathlib.Omega.{arith}
 use lib.Dec.{eqb, leb}
-use borrow.Author.Tests.{eq-eqb, ne-eqb, leb-true, leb-false}
+use borrow.Author.Tests.{eq-eqb, ne-eqb, leb-true}
 use Rattle.sets.specs.Sets.{size, sizeIn}
 use Rattle.sets.proofs.SizeMembers.{some-member, member-size}
 use Rattle.move_table.specs.Table.{raised}
@@ -37,12 +37,3 @@ module _ (on : Bool) (w all x right rest : ℕ) (t : List ℕ) where
   halved-one h o e =
       let one : size x ≡ 1 = omega (arith, size-some x h o, leb-true (size x) 1 e) in
       ap (λ (z : ℕ). halvedBy z on w all x right rest t) one
-
-  pub halved-more : leb (size x) 1 ≡ false → halved on w all x right rest t ≡ t
-  unfolding halved halvedBy
-  halved-more e = go (size x) (leb-false (size x) 1 e)
-    where
-      go : (z : ℕ) → 1 < z → halvedBy z on w all x right rest t ≡ t
-      go zero h = absurd (omega arith)
-      go (suc zero) h = absurd (omega arith)
-      go (suc (suc z)) h = refl

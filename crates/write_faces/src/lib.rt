@@ -15,7 +15,7 @@ fn pattern_byte(p: Pattern, j: usize) -> u8
     ensures { λ r. ⌜ r ≡ patternAt p j ⌝ }
 {
     if sets::member(p.dashes as u64, j) {
-        return 45;
+        return b'-';
     }
     write_pen::digit_byte(p.ones as u64, j)
 }

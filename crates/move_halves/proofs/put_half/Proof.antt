@@ -1,5 +1,6 @@
 -- `move_halves::put_half` meets its contract.
-use Rattle.move_halves.proofs.Halving.{halved-none, halved-one, halved-more}
+use Rattle.move_halves.proofs.Halving.{halved-none, halved-one}
+use Rattle.move_halves.proofs.Far.{halved-far}
 use mathlib.Core.Path.{sym, _∙_}
 use borrow.Author.Needs.{needs}
 use Rattle.move_halves.proofs.put_half.Statement.{statement}
@@ -53,7 +54,7 @@ returns-2 c =
 returns-3 : tie.Need-returns-3
 returns-3 c =
     let a = c .before .before .before .before .args in
-    sym (halved-more (a .on) (a .w) (a .all) (a .side) (a .right) (a .rest) (a .t .now) (sym (c .before .few .ensures) ∙ c .if2 .left))
+    sym (halved-far (a .on) (a .w) (a .all) (a .side) (a .right) (a .rest) (a .t .now) (sym (c .before .few .ensures) ∙ c .if2 .left))
 
 pub put-half-spec : {M : Type 1} → statement M
 put-half-spec =
