@@ -13,16 +13,16 @@ struct known {
 
 static const struct known known[] = {
     {"P1", "MC 3 1 1 0\nPT 0 110 001 1\nPT 1 101 100 0\nEN\n",
-     "CT 2 5 0 2 17\nSC 0 00\nSC 1 10\nSC 2 01\nEN\n", 0,
+     "CT 2 5 0 2 17\nSC 0 00\nSC 1 10\nSC 2 01\nBY 0 0\nBY 1 1\nBY 2 0\nBY 3 1\nBY 4 0\nEN\n", 0,
      ".i 3\n.o 3\n.p 2\n0-0 011\n10- 000\n.e\n", 0},
     {"P2", "MC 3 1 1 1\nPT 0 110 001 1\nPT 1 101 100 0\nEN\n",
-     "CT 1 5 2 1 12\nSC 0 0\nSC 1 1\nSC 2 0\nUN 1\nUN 3\nEN\n", 0,
+     "CT 1 5 2 1 12\nSC 0 0\nSC 1 1\nSC 2 0\nBY 0 0\nBY 2 0\nBY 4 0\nUN 1\nUN 3\nEN\n", 0,
      NULL, -900000},
     {"P3", "MC 1 1 1 0\nPT 0 1 1 1\nEN\n",
      "CT 0 0 0 0 0\nSC 0 -\nEN\n", 0,
      ".i 1\n.o 1\n.p 1\n0 1\n.e\n", 0},
     {"P4", "MC 2 1 1 0\nEN\n",
-     "CT 1 1 0 1 2\nSC 0 0\nSC 1 1\nEN\n", 0,
+     "CT 1 1 0 1 2\nSC 0 0\nSC 1 1\nBY 0 0\nEN\n", 0,
      ".i 2\n.o 2\n.p 0\n.e\n", 0},
     {"P9", "MC 3 1 1 0\nPT 0 110 100 1\nPT - 010 001 1\nEN\n", NULL, -600003, NULL, -600003},
     /* P10 speaks of first lines alone: with a bare `EN` behind it the first is accepted, the second refused. Read, but
@@ -115,7 +115,7 @@ unsigned known_run(const char *name, entry *report, entry *cover, unsigned *chec
     asked += 2;
 
     make_rows(128);
-    right += answers("128 rows", "report", report, "CT 1 1 0 1 2\nSC 0 0\nSC 1 1\nEN\n", 0);
+    right += answers("128 rows", "report", report, "CT 1 1 0 1 2\nSC 0 0\nSC 1 1\nBY 0 0\nEN\n", 0);
     right += starts("128 rows", "cover", cover, ".i 2\n.o 2\n.p 128\n10 11\n10 11\n");
     make_rows(129);
     right += answers("129 rows", "report", report, NULL, -200130);

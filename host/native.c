@@ -1,8 +1,8 @@
 /* The native encoder's entry: reads, encodes, and writes the report. */
 #include "native.h"
 
-/* A CT line of five numbers, 32 SC lines, an UN line of at most 8 bytes for each requirement, and EN. */
-#define NATIVE_TEXT (110 + 32 * 39 + NATIVE_REQUIREMENTS * 8 + 3)
+/* A CT line of five numbers, 32 SC lines, a BY line of at most 11 bytes or a shorter UN line for each requirement, and EN. */
+#define NATIVE_TEXT (110 + 32 * 39 + NATIVE_REQUIREMENTS * 11 + 3)
 
 static uint8_t *put_number(uint8_t *to, uint64_t number)
 {
@@ -38,6 +38,17 @@ static uint8_t *put_code(uint8_t *to, const struct native_code *code, uint32_t s
     return to;
 }
 
+static uint8_t *put_met(uint8_t *to, uint32_t requirement, uint32_t bit)
+{
+    to = put_mark(to, 'B', 'Y');
+    *to++ = ' ';
+    to = put_number(to, requirement);
+    *to++ = ' ';
+    to = put_number(to, bit);
+    *to++ = '\n';
+    return to;
+}
+
 static uint8_t *write_report(uint8_t *to, const struct native_code *code)
 {
     uint64_t counts[5] = {code->bits, code->asked, code->live, code->passes, code->looks};
@@ -49,6 +60,9 @@ static uint8_t *write_report(uint8_t *to, const struct native_code *code)
     *to++ = '\n';
     for (uint32_t state = 0; state < code->states; state++)
         to = put_code(to, code, state);
+    for (uint32_t r = 0; r < code->asked; r++)
+        if (code->card[r].all == 0)
+            to = put_met(to, r, code->by[r]);
     for (uint32_t at = 0; at < code->live; at++) {
         to = put_mark(to, 'U', 'N');
         *to++ = ' ';

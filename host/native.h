@@ -54,6 +54,7 @@ struct native_code {
     uint64_t looks;
     uint32_t live; /* how many cards are still unmet, and which, ascending */
     uint16_t unmet[NATIVE_REQUIREMENTS];
+    uint8_t by[NATIVE_REQUIREMENTS]; /* of a card that is met, the bit that met it */
     struct native_card card[NATIVE_REQUIREMENTS];
     uint32_t start[NATIVE_STATES + 1]; /* where each state's part of `of` begins */
     uint32_t number[NATIVE_STATES];    /* how many stand in it */

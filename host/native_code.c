@@ -160,6 +160,7 @@ static void sift(struct native_code *code, uint32_t bit)
         struct native_card *card = &code->card[code->unmet[at]];
         uint32_t wrong = card->all & (bit ^ card->second);
         bool met = wrong == 0 || wrong == card->all;
+        code->by[code->unmet[at]] = (uint8_t)code->bits;
         code->unmet[kept] = code->unmet[at];
         kept += !met;
         card->all = met ? 0 : card->all;
@@ -186,15 +187,12 @@ int64_t native_encode(const struct native_machine *machine, struct native_code *
     draw_up(machine, code);
     sort_by_state(code);
     while (code->live != 0 && code->bits < most) {
-        uint32_t before = code->live;
         uint32_t bit = code->card[code->unmet[0]].second;
         while (run_pass(code, &bit))
             continue;
         if (bit & 1)
             bit = ~bit & 0xFFFFFFFFu >> (32 - code->states);
         sift(code, bit);
-        if (code->live == before)
-            return 800000;
         code->bit[code->bits++] = bit;
     }
     return machine->width == 0 && code->live != 0 ? 700000 : 0;

@@ -72,13 +72,14 @@ static struct second_refusal encode(const uint8_t *listing, size_t length, struc
 }
 
 /* "`CT bits asked unmet passes looks` ...; `SC state code` for each state; `UN number` for each unmet requirement,
-   ascending; `EN`. A code of no bits prints as one dash." */
+   ascending; `EN`. A code of no bits prints as one dash." 02, request 04: "The report gains `BY number bit` for each met
+   requirement, ascending, after the `SC` lines and before the `UN` lines." */
 static void write_report(const struct second_machine *machine, const struct second_requirements *requirements,
                          const struct second_code *code, struct text *text)
 {
     unsigned unmet = 0;
     for (unsigned r = 0; r < requirements->number; r++)
-        if (!second_code_meets(requirements->list[r], code))
+        if (second_met_by(requirements->list[r], code) == SECOND_NO_BIT)
             unmet++;
     put_word_number(text, "CT", code->bits);
     put_word_number(text, "", requirements->number);
@@ -95,7 +96,15 @@ static void write_report(const struct second_machine *machine, const struct seco
         put_byte(text, '\n');
     }
     for (unsigned r = 0; r < requirements->number; r++) {
-        if (!second_code_meets(requirements->list[r], code)) {
+        int bit = second_met_by(requirements->list[r], code);
+        if (bit != SECOND_NO_BIT) {
+            put_word_number(text, "BY", r);
+            put_word_number(text, "", (uint64_t)bit);
+            put_byte(text, '\n');
+        }
+    }
+    for (unsigned r = 0; r < requirements->number; r++) {
+        if (second_met_by(requirements->list[r], code) == SECOND_NO_BIT) {
             put_word_number(text, "UN", r);
             put_byte(text, '\n');
         }
@@ -174,7 +183,7 @@ int64_t second_cover(const uint8_t *listing, size_t listing_length, uint8_t *out
     if (refusal.number != SECOND_FINE)
         return refused(refusal);
     for (unsigned r = 0; r < requirements.pairs_groups; r++)
-        if (!second_code_meets(requirements.list[r], &code))
+        if (second_met_by(requirements.list[r], &code) == SECOND_NO_BIT)
             return refused(unmet);
     text.length = 0;
     write_cover(&machine, &code, &text);

@@ -22,9 +22,9 @@
 /* 01, "Looks": the trial record takes a list of at most 256. */
 #define SECOND_TRIAL_REQUIREMENTS 256
 
-/* No text that the encoder prints is longer: an UN line has at most 9 bytes, an SC line at most 72, a cover row at most
+/* No text that the encoder prints is longer: a BY line has at most 12 bytes, an UN line 9, an SC line 72, a cover row
    192. */
-#define SECOND_TEXT (SECOND_REQUIREMENTS * 9 + SECOND_STATES * 72 + SECOND_ROWS * 192 + 256)
+#define SECOND_TEXT (SECOND_REQUIREMENTS * 12 + SECOND_STATES * 72 + SECOND_ROWS * 192 + 256)
 
 /* 01, "Refusal numbers". SECOND_FINE stands for no refusal; 8 is unused (02, request 06). */
 enum {
@@ -53,6 +53,7 @@ struct second_requirement {
 };
 
 #define SECOND_NO_STATE (-1)
+#define SECOND_NO_BIT (-1)
 
 struct second_row {
     unsigned line;
@@ -103,7 +104,7 @@ uint64_t second_all_states(unsigned states);
 unsigned second_size(uint64_t set);
 void second_draw_up(const struct second_machine *machine, struct second_requirements *requirements);
 bool second_bit_meets(struct second_requirement requirement, uint64_t bit);
-bool second_code_meets(struct second_requirement requirement, const struct second_code *code);
+int second_met_by(struct second_requirement requirement, const struct second_code *code); /* a bit, or SECOND_NO_BIT */
 bool second_near(struct second_requirement requirement, uint64_t bit);
 bool second_looks_at(struct second_requirement requirement, uint64_t bit, unsigned state);
 int64_t second_met_number(const struct second_requirement *live, unsigned number, uint64_t bit);

@@ -78,13 +78,14 @@ bool second_bit_meets(struct second_requirement requirement, uint64_t bit)
     return wrong_for_0_1(requirement, bit) == 0 || wrong_for_1_0(requirement, bit) == 0;
 }
 
-/* "A code meets a requirement when some bit does, so a code of no bits meets none." */
-bool second_code_meets(struct second_requirement requirement, const struct second_code *code)
+/* 02, request 04: "The judgement of one requirement against a code shall answer with the lowest bit number that meets it
+   (from 0, leftmost first), or say that none does." */
+int second_met_by(struct second_requirement requirement, const struct second_code *code)
 {
     for (unsigned place = 0; place < code->bits; place++)
         if (second_bit_meets(requirement, code->bit[place]))
-            return true;
-    return false;
+            return (int)place;
+    return SECOND_NO_BIT;
 }
 
 /* "It is *near* when either is 0 or 1." */
@@ -192,7 +193,7 @@ static unsigned still_live(const struct second_requirements *requirements, const
 {
     unsigned number = 0;
     for (unsigned r = 0; r < requirements->number; r++)
-        if (!second_code_meets(requirements->list[r], code))
+        if (second_met_by(requirements->list[r], code) == SECOND_NO_BIT)
             live[number++] = requirements->list[r];
     return number;
 }

@@ -378,27 +378,31 @@ static const struct {
     const char *cover;
 } worked[] = {
     /* Reading 12: one state and one dichotomy build exactly one bit, 0; for `-` it is complemented. */
-    {"MC 1 1 1 0\nDI +\nEN\n", "CT 1 1 0 1 1\nSC 0 0\nEN\n", ".i 2\n.o 2\n.p 0\n.e\n"},
-    {"MC 1 1 1 0\nDI -\nEN\n", "CT 1 1 0 1 1\nSC 0 0\nEN\n", ".i 2\n.o 2\n.p 0\n.e\n"},
-    {"MC 1 1 1 0\nDI .\nEN\n", "CT 1 1 0 1 0\nSC 0 0\nEN\n", ".i 2\n.o 2\n.p 0\n.e\n"},
+    {"MC 1 1 1 0\nDI +\nEN\n", "CT 1 1 0 1 1\nSC 0 0\nBY 0 0\nEN\n", ".i 2\n.o 2\n.p 0\n.e\n"},
+    {"MC 1 1 1 0\nDI -\nEN\n", "CT 1 1 0 1 1\nSC 0 0\nBY 0 0\nEN\n", ".i 2\n.o 2\n.p 0\n.e\n"},
+    {"MC 1 1 1 0\nDI .\nEN\n", "CT 1 1 0 1 0\nSC 0 0\nBY 0 0\nEN\n", ".i 2\n.o 2\n.p 0\n.e\n"},
     /* Reading 20: no bits. */
     {"MC 1 2 3 5\nPT -1 1 0 1-0\nEN\n", "CT 0 0 0 0 0\nSC 0 -\nEN\n", ".i 2\n.o 3\n.p 1\n-1 100\n.e\n"},
     /* The pair first; the second bit begins and ends as all 0, or as all 1 and is complemented. */
-    {"MC 2 1 1 0\nDI ++\nEN\n", "CT 2 2 0 2 6\nSC 0 00\nSC 1 10\nEN\n", ".i 3\n.o 3\n.p 0\n.e\n"},
-    {"MC 2 1 1 0\nDI --\nEN\n", "CT 2 2 0 2 6\nSC 0 00\nSC 1 10\nEN\n", ".i 3\n.o 3\n.p 0\n.e\n"},
+    {"MC 2 1 1 0\nDI ++\nEN\n", "CT 2 2 0 2 6\nSC 0 00\nSC 1 10\nBY 0 0\nBY 1 1\nEN\n", ".i 3\n.o 3\n.p 0\n.e\n"},
+    {"MC 2 1 1 0\nDI --\nEN\n", "CT 2 2 0 2 6\nSC 0 00\nSC 1 10\nBY 0 0\nBY 1 1\nEN\n", ".i 3\n.o 3\n.p 0\n.e\n"},
     /* A dichotomy may stay unmet in a cover. */
-    {"MC 2 1 1 1\nDI ++\nEN\n", "CT 1 2 1 1 4\nSC 0 0\nSC 1 1\nUN 1\nEN\n", ".i 2\n.o 2\n.p 0\n.e\n"},
+    {"MC 2 1 1 1\nDI ++\nEN\n", "CT 1 2 1 1 4\nSC 0 0\nSC 1 1\nBY 0 0\nUN 1\nEN\n", ".i 2\n.o 2\n.p 0\n.e\n"},
     /* Three states: no move stands; in the second bit state 1 is in no live requirement and moves all the same. */
-    {"MC 3 1 1 0\nEN\n", "CT 2 3 0 2 8\nSC 0 00\nSC 1 10\nSC 2 01\nEN\n", ".i 3\n.o 3\n.p 0\n.e\n"},
+    {"MC 3 1 1 0\nEN\n", "CT 2 3 0 2 8\nSC 0 00\nSC 1 10\nSC 2 01\nBY 0 0\nBY 1 1\nBY 2 0\nEN\n", ".i 3\n.o 3\n.p 0\n.e\n"},
     /* Four states: each bit has a pass whose first move stands; the first bit is complemented. */
-    {"MC 4 1 1 0\nEN\n", "CT 2 6 0 4 32\nSC 0 00\nSC 1 01\nSC 2 11\nSC 3 10\nEN\n", ".i 3\n.o 3\n.p 0\n.e\n"},
+    {"MC 4 1 1 0\nEN\n",
+     "CT 2 6 0 4 32\nSC 0 00\nSC 1 01\nSC 2 11\nSC 3 10\nBY 0 1\nBY 1 0\nBY 2 0\nBY 3 0\nBY 4 0\nBY 5 1\nEN\n", ".i 3\n.o 3\n.p 0\n.e\n"},
     /* Output dashes, a row that names no next state, a face of one state and one of all. */
-    {"MC 2 2 3 0\nPT 0- 10 01 1-0\nPT -1 01 00 -11\nPT 11 11 10 000\nEN\n", "CT 1 1 0 1 2\nSC 0 0\nSC 1 1\nEN\n",
+    {"MC 2 2 3 0\nPT 0- 10 01 1-0\nPT -1 01 00 -11\nPT 11 11 10 000\nEN\n",
+     "CT 1 1 0 1 2\nSC 0 0\nSC 1 1\nBY 0 0\nEN\n",
      ".i 3\n.o 4\n.p 3\n0-0 1100\n-11 0011\n11- 0000\n.e\n"},
     /* Reading 16: a width above need builds fewer bits. P1 again. */
-    {"MC 3 1 1 32\nPT 0 110 001 1\nPT 1 101 100 0\nEN\n", "CT 2 5 0 2 17\nSC 0 00\nSC 1 10\nSC 2 01\nEN\n",
+    {"MC 3 1 1 32\nPT 0 110 001 1\nPT 1 101 100 0\nEN\n",
+     "CT 2 5 0 2 17\nSC 0 00\nSC 1 10\nSC 2 01\nBY 0 0\nBY 1 1\nBY 2 0\nBY 3 1\nBY 4 0\nEN\n",
      ".i 3\n.o 3\n.p 2\n0-0 011\n10- 000\n.e\n"},
-    {"MC 3 1 1 2\nPT 0 110 001 1\nPT 1 101 100 0\nEN\n", "CT 2 5 0 2 17\nSC 0 00\nSC 1 10\nSC 2 01\nEN\n",
+    {"MC 3 1 1 2\nPT 0 110 001 1\nPT 1 101 100 0\nEN\n",
+     "CT 2 5 0 2 17\nSC 0 00\nSC 1 10\nSC 2 01\nBY 0 0\nBY 1 1\nBY 2 0\nBY 3 1\nBY 4 0\nEN\n",
      ".i 3\n.o 3\n.p 2\n0-0 011\n10- 000\n.e\n"},
 };
 
@@ -421,7 +425,8 @@ static void test_worked(void)
 /* Refusal 10 and what stands behind an answer; and that 10 comes last. */
 static void test_room(void)
 {
-    static const char text[] = "CT 2 5 0 2 17\nSC 0 00\nSC 1 10\nSC 2 01\nEN\n";
+    static const char text[] = 
+     "CT 2 5 0 2 17\nSC 0 00\nSC 1 10\nSC 2 01\nBY 0 0\nBY 1 1\nBY 2 0\nBY 3 1\nBY 4 0\nEN\n";
     size_t wanted = strlen(text);
     start("MC 3 1 1 0\nPT 0 110 001 1\nPT 1 101 100 0\nEN\n");
     for (size_t room = 0; room <= wanted + 5; room++) {
@@ -565,7 +570,7 @@ static void check_face(const struct second_code *code, unsigned states, uint64_t
     for (unsigned s = 0; s < states; s++) {
         struct second_requirement outside = {group, only(s)};
         if ((group & only(s)) == 0)
-            check(second_code_meets(outside, code), what);
+            check(second_met_by(outside, code) != SECOND_NO_BIT, what);
     }
 }
 
@@ -591,10 +596,10 @@ static void test_papers(void)
     };
     code = columns(p7, 4);
     for (unsigned r = 0; r < LENGTH_OF(asked); r++)
-        check(second_code_meets(asked[r], &code), "P7");
+        check(second_met_by(asked[r], &code) != SECOND_NO_BIT, "P7");
     code.bits = 0;
     for (unsigned r = 0; r < LENGTH_OF(asked); r++)
-        check(!second_code_meets(asked[r], &code), "a code of no bits meets none");
+        check(second_met_by(asked[r], &code) == SECOND_NO_BIT, "a code of no bits meets none");
 
     static const unsigned looks_after[] = {1, 2, 2, 3, 4};
     static struct second_trial trial;
@@ -839,7 +844,7 @@ static unsigned collect_live(const struct second_requirements *drawn, struct sec
     unsigned number = 0;
     code.bits = bits;
     for (unsigned r = 0; r < drawn->number; r++)
-        if (!second_code_meets(drawn->list[r], &code))
+        if (second_met_by(drawn->list[r], &code) == SECOND_NO_BIT)
             live[number++] = drawn->list[r];
     return number;
 }
@@ -885,7 +890,7 @@ static bool faces_are_right(const struct second_machine *machine, const struct s
                             const struct second_code *code)
 {
     for (unsigned r = 0; r < drawn->pairs_groups; r++)
-        if (!second_code_meets(drawn->list[r], code))
+        if (second_met_by(drawn->list[r], code) == SECOND_NO_BIT)
             return true;
     for (unsigned row = 0; row < machine->rows; row++) {
         uint64_t group = machine->row[row].group;

@@ -8,10 +8,11 @@
 
 /* ---- a listing's report and cover ---- */
 
-/* No answer is as long as this: a buffer of this many bytes always has room. */
-#define TSURMOKAN_ROOM 100000
+/* No report is longer, and no cover: a buffer of this many bytes always has room. (A line of counts, 32 lines of codes, a line for each
+ * of 4,400 requirements, and the end: report-length of crates/write_report/proofs/Length.antt.) */
+#define TSURMOKAN_ROOM 49709
 
-/* The report of a listing: each state's code, and what the code leaves unmet.
+/* The report of a listing: each state's code, which bit meets which requirement, and what the code leaves unmet.
  *   listing, listing_length   the listing's bytes, any bytes at all
  *   out, out_length           where the report is written; the two buffers must not overlap, and neither pointer is null,
  *                             though a length may be 0

@@ -1,4 +1,4 @@
 pub mod Ways
-pub mod Counted
+pub mod Walked
 pub mod Wide
 pub mod Judgement

@@ -2,12 +2,14 @@
 use mathlib.Core.Path.{_≡_, refl, sym, ap, _∙_}
 use mathlib.Core.Bool.{Bool, true, false, _&&_, _||_}
 use mathlib.Core.List.{List}
-use Prim.Native.Nat.{ℕ, _+_, _≤_, _<_}
+use Prim.Native.Nat.{ℕ, suc, _+_, _≤_, _<_}
 use native.Mathlib.Numerals.{add-one}
 use lib.ListN.{length, getD, drop, drop-of-length-le}
 use lib.Seq.{drop-cons}
-use Rattle.rules.specs.Requirements.{asks, wholly, met, metByCode}
+use Rattle.rules.specs.Requirements.{asks, wholly, met, judgedFrom}
 use Rattle.rules.specs.declared.Requirement.{Requirement}
+use Rattle.rules.specs.declared.Judgement.the-variants.{By, ByNone}
+use Rattle.rules.proofs.Judged.{judged-here, judged-later}
 
 and-turned : (x y : Bool) → (x && y) ≡ (y && x)
 and-turned true true = refl
@@ -31,16 +33,15 @@ module _ (n b first second : ℕ) where
   met-other-way e = met-ways ∙ ap (λ (x : Bool). x || way second first) e
 
 module _ (n : ℕ) (bits : List ℕ) (r : Requirement) (k : ℕ) where
-  code-step : k < length bits → metByCode n (drop k bits) r ≡ (met n r (getD bits k 0) || metByCode n (drop (k + 1) bits) r)
-  unfolding metByCode
-  code-step h = ap (λ (bs : List ℕ). metByCode n bs r) (drop-cons bits k 0 h) ∙ ap (λ (j : ℕ). met n r (getD bits k 0) || metByCode n (drop j bits) r) (sym (add-one k))
+  pub bit-meets : k < length bits → met n r (getD bits k 0) ≡ true → judgedFrom k n (drop k bits) r ≡ By (record { 0 = k })
+  bit-meets h e = ap (λ (bs : List ℕ). judgedFrom k n bs r) (drop-cons bits k 0 h) ∙ judged-here k n (getD bits k 0) (drop (suc k) bits) r e
 
-  pub code-met : k < length bits → met n r (getD bits k 0) ≡ true → metByCode n (drop k bits) r ≡ true
-  code-met h e = code-step h ∙ ap (λ (x : Bool). x || metByCode n (drop (k + 1) bits) r) e
+  pub bit-fails : k < length bits → met n r (getD bits k 0) ≡ false → judgedFrom k n (drop k bits) r ≡ judgedFrom (k + 1) n (drop (k + 1) bits) r
+  bit-fails h e =
+      ap (λ (bs : List ℕ). judgedFrom k n bs r) (drop-cons bits k 0 h)
+      ∙ judged-later k n (getD bits k 0) (drop (suc k) bits) r e
+      ∙ ap (λ (j : ℕ). judgedFrom j n (drop j bits) r) (sym (add-one k))
 
-  pub code-later : k < length bits → met n r (getD bits k 0) ≡ false → metByCode n (drop k bits) r ≡ metByCode n (drop (k + 1) bits) r
-  code-later h e = code-step h ∙ ap (λ (x : Bool). x || metByCode n (drop (k + 1) bits) r) e
-
-  pub code-none : length bits ≤ k → metByCode n (drop k bits) r ≡ false
-  unfolding metByCode
-  code-none h = ap (λ (bs : List ℕ). metByCode n bs r) (drop-of-length-le bits {i = k} h)
+  pub no-bit : length bits ≤ k → judgedFrom k n (drop k bits) r ≡ ByNone
+  unfolding judgedFrom
+  no-bit h = ap (λ (bs : List ℕ). judgedFrom k n bs r) (drop-of-length-le bits {i = k} h)

@@ -1,17 +1,19 @@
 -- A code meets a requirement of n states alike whether it is asked over n states or over all 64 that a set can have.
 use mathlib.Core.Path.{_≡_, refl, sym, ap, ap₂, _∙_}
-use mathlib.Core.Bool.{Bool, true, false, _&&_, _||_}
+use mathlib.Core.Bool.{Bool, true, false, _&&_, _||_, cond}
 use mathlib.Core.List.{List, [], _∷_}
 use Prim.Native.Nat.{ℕ, zero, suc, _^_, _≤_, _<_}
 use lib.Pow.{pow-mono}
 use native.Mathlib.Nat.{lt-of-lt-of-le}
-use Rattle.rules.specs.Requirements.{wholly, met, metByCode}
+use Rattle.rules.specs.Requirements.{wholly, met, judgedFrom, judgement, isBy, metByCode}
 use Rattle.rules.specs.Code.{unmetFrom}
 use Rattle.rules.specs.declared.Requirement.{Requirement}
+use Rattle.rules.specs.declared.Judgement.{Judgement}
+use Rattle.rules.specs.declared.Judgement.the-variants.{By}
 use Rattle.rules.proofs.Good.{Good, AllGood}
 use Rattle.rules.proofs.Wholly.{wholly-zero, wholly-one}
 use Rattle.rules.proofs.Unmet.{listed-met, listed-unmet}
-use Rattle.code_judging.specs.Judging.{metAt}
+use Rattle.code_judging.specs.Judging.{judgementAt}
 
 module _ (n : ℕ) (few : n ≤ 64) where
   wide : (m : ℕ) → m < 2 ^ n → m < 2 ^ 64
@@ -28,15 +30,23 @@ module _ (n : ℕ) (few : n ≤ 64) where
   met-wide r b g =
       ap₂ _||_ (ap₂ _&&_ (zero-wide b (r .first) (g .first)) (one-wide b (r .second) (g .second))) (ap₂ _&&_ (one-wide b (r .first) (g .first)) (zero-wide b (r .second) (g .second)))
 
-  pub code-wide : (bits : List ℕ) (r : Requirement) → Good n r → metByCode 64 bits r ≡ metByCode n bits r
-  unfolding metByCode
-  code-wide [] r g = refl
-  code-wide (b ∷ bs) r g = ap₂ _||_ (met-wide r b g) (code-wide bs r g)
+  from-wide : (k : ℕ) (bits : List ℕ) (r : Requirement) → Good n r → judgedFrom k 64 bits r ≡ judgedFrom k n bits r
+  unfolding judgedFrom
+  from-wide k [] r g = refl
+  from-wide k (b ∷ bs) r g = ap₂ (λ (t : Bool) (j : Judgement). cond t (By (record { 0 = k })) j) (met-wide r b g) (from-wide (suc k) bs r g)
 
-  pub at-wide : (bits : List ℕ) (rs : List Requirement) (k : ℕ) → AllGood n rs → metAt 64 bits rs k ≡ metAt n bits rs k
-  unfolding metAt
+  pub judged-wide : (bits : List ℕ) (r : Requirement) → Good n r → judgement 64 bits r ≡ judgement n bits r
+  unfolding judgement
+  judged-wide bits r g = from-wide 0 bits r g
+
+  code-wide : (bits : List ℕ) (r : Requirement) → Good n r → metByCode 64 bits r ≡ metByCode n bits r
+  unfolding metByCode
+  code-wide bits r g = ap isBy (judged-wide bits r g)
+
+  pub at-wide : (bits : List ℕ) (rs : List Requirement) (k : ℕ) → AllGood n rs → judgementAt 64 bits rs k ≡ judgementAt n bits rs k
+  unfolding judgementAt
   at-wide bits [] k g = refl
-  at-wide bits (r ∷ rs) zero g = code-wide bits r (g .0)
+  at-wide bits (r ∷ rs) zero g = judged-wide bits r (g .0)
   at-wide bits (r ∷ rs) (suc k) g = at-wide bits rs k (g .1)
 
   pub unmet-wide : (k : ℕ) (bits : List ℕ) (rs : List Requirement) → AllGood n rs → unmetFrom k 64 bits rs ≡ unmetFrom k n bits rs

@@ -1,11 +1,13 @@
-// Whether a code meets a requirement, judged from its bits by masks.
+// By which bit a code meets a requirement, judged from its bits by masks.
 ghost use mathlib.Core.Path.{_≡_};
 ghost use mathlib.Core.Bool.{_&&_};
-ghost use lib.ListN.{getD};
-ghost use Rattle.sets.specs.Sets.{statesFrom};
-ghost use Rattle.rules.specs.Requirements.{asks, wholly, met, metByCode};
-ghost use Rattle.families.specs.Families.{inside, requirementsOf, requirementsIn};
-ghost use Rattle.code_judging.specs.Judging.{countOf, metAt, judged};
+ghost use Rattle.rules.specs.Requirements.{asks, wholly, met, judgement};
+ghost use Rattle.families.specs.Families.{requirementsIn};
+ghost use Rattle.code_judging.specs.Judging.{judgementAt, judged, someUnmet, anyUnmet};
+use rules::BitNumber;
+use rules::Encoding;
+use rules::Judgement;
+use rules::Requirement;
 
 // Whether the bit b has value 0 on the whole block z and 1 on the whole block o.
 fn parts(b: u64, z: u64, o: u64) -> bool
@@ -27,91 +29,72 @@ fn meets(b: u64, first: u64, second: u64) -> bool
     parts(b, second, first)
 }
 
-// Whether some bit of the code meets it.
-pub fn met_by(bits: &[u64], first: u64, second: u64) -> bool
-    ensures { λ r. ⌜ r ≡ metByCode 64 (now (bits .entry)) (asks first second) ⌝ }
+// The lowest bit of the code that meets it, or that none does.
+pub fn judge(bits: &[u64], r: Requirement) -> Judgement
+    ensures { λ j. ⌜ j ≡ judgement 64 (now (bits .entry)) r ⌝ }
 {
     let mut k: usize = 0;
     while k < bits.len() {
-        if meets(bits[k], first, second) {
-            return true;
+        if meets(bits[k], r.first, r.second) {
+            return Judgement::By(BitNumber(k));
         }
         k += 1;
     }
-    false
+    Judgement::ByNone
 }
 
-// How many requirements a family has.
-pub fn count_of(all: u64, out: u64) -> usize
-    ensures { λ r. ⌜ r ≡ countOf all out ⌝ }
+// The judgement of the requirement with that number of the families; beyond them there is none to meet.
+fn judge_in(bits: &[u64], fs: &[u64], number: usize) -> Judgement
+    ensures { λ j. ⌜ j ≡ judgementAt 64 (now (bits .entry)) (requirementsIn (now (fs .entry))) number ⌝ }
 {
-    if out == 0 {
-        return 1;
-    }
-    sets::size_of(families::without_of(out, all)) as usize
-}
-
-// The member of m with k members below it, or 64 where there is none.
-fn member_at(m: u64, k: usize) -> usize
-    ensures { λ r. ⌜ r ≡ getD (inside m (statesFrom 0 64)) k 64 ⌝ }
-{
-    let mut rest = m;
-    let mut left = k;
-    while left != 0 {
-        rest = sets::without_lowest(rest);
+    let mut w = code_walking::enter(fs, 0);
+    let mut left = number;
+    while !code_walking::is_over(fs, w) {
+        if left == 0 {
+            return judge(bits, code_walking::requirement(fs, w));
+        }
+        w = code_walking::step(fs, w);
         left -= 1;
     }
-    sets::lowest(rest)
+    Judgement::ByNone
 }
 
-// Whether some bit meets the requirement with the number k of a family.
-fn is_met_of(bits: &[u64], all: u64, flip: u64, out: u64, k: usize) -> bool
-    ensures { λ r. ⌜ r ≡ metAt 64 (now (bits .entry)) (requirementsOf all flip out) k ⌝ }
-{
-    let first = families::without_of(all, flip);
-    let second = all & flip;
-    if out == 0 {
-        if k == 0 {
-            return met_by(bits, first, second);
-        }
-        return false;
-    }
-    let t = member_at(families::without_of(out, all), k);
-    if 64 <= t {
-        return false;
-    }
-    met_by(bits, first, second | (1 << t))
-}
-
-// Whether some bit meets the requirement with that number of the families.
-fn is_met_in(bits: &[u64], fs: &[u64], number: usize) -> bool
-    ensures { λ r. ⌜ r ≡ metAt 64 (now (bits .entry)) (requirementsIn (now (fs .entry))) number ⌝ }
-{
-    let mut i: usize = 0;
-    let mut k = number;
-    while 3 <= fs.len() - i {
-        let count = count_of(fs[i], fs[i + 2]);
-        if k < count {
-            return is_met_of(bits, fs[i], fs[i + 1], fs[i + 2], k);
-        }
-        k -= count;
-        i += 3;
-    }
-    false
-}
-
-// Whether the code meets the listing's requirement with that number; beyond those asked there is none to meet.
-pub fn is_met(t: rules::Listing, e: rules::Encoding, r: rules::RequirementNumber) -> bool
-    ensures { λ m. ⌜ m ≡ judged t e r ⌝ }
+// The judgement of the listing's requirement with that number; beyond those asked there is none to meet.
+pub fn judge_number(t: rules::Listing, e: Encoding, r: rules::RequirementNumber) -> Judgement
+    ensures { λ j. ⌜ j ≡ judged t e r ⌝ }
 {
     let k = r.0;
     let asked = e.asked;
     if asked <= k {
-        return false;
+        return Judgement::ByNone;
     }
     let width = sets::least(e.width, rules::MOST_BITS);
     let bits = e.bits;
     let mut fs = [0u64; code_drawing::ALL_WORDS];
     let words = code_drawing::draw_all(t, &mut fs);
-    is_met_in(&bits[..width], &fs[..words], k)
+    judge_in(&bits[..width], &fs[..words], k)
+}
+
+// Whether no bit meets one of the families' requirements.
+fn is_unmet_in(bits: &[u64], fs: &[u64]) -> bool
+    ensures { λ r. ⌜ r ≡ someUnmet (now (bits .entry)) (requirementsIn (now (fs .entry))) ⌝ }
+{
+    let mut w = code_walking::enter(fs, 0);
+    while !code_walking::is_over(fs, w) {
+        let judged = judge(bits, code_walking::requirement(fs, w));
+        if !judged.is_met() {
+            return true;
+        }
+        w = code_walking::step(fs, w);
+    }
+    false
+}
+
+// The same of the encoder's answer.
+pub fn is_any_unmet(e: Encoding, fs: &[u64]) -> bool
+    ensures { λ r. ⌜ r ≡ anyUnmet (now (fs .entry)) e ⌝ }
+{
+    let width = sets::least(e.width, rules::MOST_BITS);
+    let bits = e.bits;
+    is_unmet_in(&bits[..width], fs)
 }

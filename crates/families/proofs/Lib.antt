@@ -1,5 +1,6 @@
 pub mod Parts
 pub mod Inside
+pub mod Family
 pub mod Drawn
 pub mod Walk
 pub mod Left

@@ -13,7 +13,7 @@ use Rattle.rules.specs.Answers.{Reply, says, refuses, printed}
 use Rattle.rules.specs.declared.Refusal.{Refusal}
 use Rattle.rules.specs.declared.Refusal.the-variants.{BadLine, Limit, Place, EmptyGroup, NextState, Conflict, TooWide, Unmet, NoRoom, BadCall}
 use Rattle.write_pen.specs.Pen.{Wrote}
-use Rattle.write_pen.proofs.Decimal.{decimal-length}
+use Rattle.rules.proofs.Decimal.{decimal-length}
 use Rattle.write_pen.proofs.Laws.{wrote-length, wrote-all}
 use Rattle.host_replies.specs.declared.Said.{Said}
 use Rattle.host_replies.specs.Saying.{saying}
@@ -68,7 +68,7 @@ refusal-length r line h =
 
 reply-length : (reply : Reply) → Small reply → length (printed reply) < 100000
 unfolding printed
-reply-length (says text) h = h
+reply-length (says text) h = omega arith
 reply-length (refuses r line) h = omega (arith, refusal-length r line h)
 
 -- ---- the two ways to tell

@@ -12,8 +12,8 @@ fn put_refusal(out: &mut [u8], refusal: rules::Refusal, line: usize) -> usize
     ensures { λ r. ⌜ Wrote (now (out .entry)) 0 (printed (refuses refusal line)) r (now (out .exit)) ⌝ }
 {
     let p = write_pen::put_bytes(out, 0, b"NO ");
-    let q = write_pen::put_field(out, p, refusal.number_of() as u64, 32);
-    write_pen::put_field(out, q, line as u64, 10)
+    let q = write_pen::put_field(out, p, refusal.number_of() as u64, b' ');
+    write_pen::put_field(out, q, line as u64, b'\n')
 }
 
 // A refusal is written over the buffer; a text stands there already. The answer is how many bytes are to be printed.

@@ -23,8 +23,10 @@ use Rattle.rules.proofs.Sound.{Sound, accepted-sound, rows-length}
 use Rattle.code_encoding.specs.Encode.{encoded}
 use Rattle.write_pen.specs.Pen.{Wrote}
 use Rattle.write_pen.proofs.Laws.{wrote-all, wrote-length}
-use Rattle.write_report.specs.Report.{most-words, firstOf, encodedReport, anyUnmet}
-use Rattle.write_report.proofs.Same.{same-report, same-judged}
+use Rattle.write_report.specs.Report.{most-words, firstOf, encodedReport}
+use Rattle.code_judging.specs.Judging.{anyUnmet}
+use Rattle.write_report.proofs.Same.{same-report}
+use Rattle.code_judging.proofs.Judgement.{same-judged}
 use Rattle.write_report.proofs.Length.{report-length, unmet-few}
 use Rattle.code_fair.specs.Fair.{fair}
 use Rattle.code_fair.proofs.FairListings.{sound-fair}
@@ -37,7 +39,7 @@ use Rattle.code_drawing.proofs.Requirements.{all-are}
 use Rattle.code_drawing.proofs.Whole.{few-all}
 use Rattle.write_cover.specs.Covers.{Bounded}
 use Rattle.write_cover.proofs.Length.{cover-length}
-use Rattle.host_replies.specs.Saying.{room, saying, Whole, replyOf, replyTo}
+use Rattle.host_replies.specs.Saying.{longest, room, saying, Whole, replyOf, replyTo}
 use Rattle.host_replies.specs.declared.Wanted.{Wanted}
 use Rattle.host_replies.specs.declared.Said.{Said}
 use Rattle.host_replies.proofs.Encodings.{no-code}
@@ -116,7 +118,7 @@ module _ (t : Listing) (e : Encoding) (w : Whole t e) where
   unfolding unmet
   few-unmet = omega (arith, few-asked, unmet-few 0 (t .head .states) (w .code .bits) (requirements t))
 
-  pub report-few : length (encodedReport (t .head .states) (allFamilies t) e) < room
+  pub report-few : length (encodedReport (t .head .states) (allFamilies t) e) ≤ longest
   report-few =
       omega (
         arith,
@@ -128,9 +130,16 @@ module _ (t : Listing) (e : Encoding) (w : Whole t e) where
   pub bounded : Bounded (t .head)
   bounded = record { inputs = w .sound .head .few-inputs; outputs = w .sound .head .few-outputs }
 
-  pub cover-few : length (cover t (take (e .width) (e .bits))) < room
+  pub cover-few : length (cover t (take (e .width) (e .bits))) ≤ longest
   cover-few =
       omega (arith, cover-length t (take (e .width) (e .bits)) bounded (omega (arith, rows-length t (w .sound), w .sound .few-rows)) (omega (arith, length-take (e .width) (e .bits), w .narrow)))
+
+  -- so there is always room
+  pub report-fits : length (encodedReport (t .head .states) (allFamilies t) e) < room
+  report-fits = omega (arith, report-few)
+
+  pub cover-fits : length (cover t (take (e .width) (e .bits))) < room
+  cover-fits = omega (arith, cover-few)
 
   -- ---- what is said in a code
 
@@ -155,4 +164,4 @@ module _ (t : Listing) (e : Encoding) (w : Whole t e) where
   pub cover-said : (k : Wanted) (b : Bool) → k ≡ Wanted.Cover → b ≡ anyUnmet (firstFamilies t) e → cond b (refuses Unmet 0) (says (cover t (take (e .width) (e .bits)))) ≡ replyOf k t
   unfolding replyOf
   cover-said k b h q =
-      sym (ap (λ (x : Wanted). replyOf x t) h ∙ cover-as b (sym (q ∙ same-judged t is-fair good (w .sound .table) (w .sound .asked) e)))
+      sym (ap (λ (x : Wanted). replyOf x t) h ∙ cover-as b (sym (q ∙ same-judged t is-fair good e)))

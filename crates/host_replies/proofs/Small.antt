@@ -1,8 +1,8 @@
--- Every answer is small: a text has fewer than 100,000 bytes, and a refusal's line is below 100,000. So that many bytes of room are always enough.
+-- Every answer is small: no text is longer than `longest`, and a refusal's line is below 100,000. So that many bytes of room are always enough.
 use mathlib.Core.Path.{_≡_, refl, subst}
 use mathlib.Core.Bool.{Bool, true, false, cond}
 use mathlib.Core.List.{List}
-use Prim.Native.Nat.{ℕ, _<_}
+use Prim.Native.Nat.{ℕ, _≤_, _<_}
 use native.Mathlib.Omega.{arith}
 use lib.Dec.{leb}
 use lib.ListN.{length}
@@ -20,20 +20,20 @@ use Rattle.code_encoding.specs.Encode.{encodedAs}
 use Rattle.write_report.proofs.Same.{same-report}
 use Rattle.code_fair.proofs.FairListings.{sound-fair}
 use Rattle.rules.proofs.Good.{requirements-good}
-use Rattle.host_replies.specs.Saying.{replyTo}
+use Rattle.host_replies.specs.Saying.{longest, replyTo}
 use Rattle.host_replies.specs.declared.Wanted.{Wanted}
 use Rattle.host_replies.proofs.Encodings.{whole-as, held}
 use Rattle.host_replies.proofs.Sayings.{report-few, cover-few}
 
 abbrev pub Small : Reply → Type 0
-Small (says text) = length text < 100000
+Small (says text) = length text ≤ longest
 Small (refuses r line) = line < 100000
 
 module _ (t : Listing) (s : Sound t) where
   report-as : (a : Coding) → coding t ≡ a → Small (reportOf t a)
   unfolding reportReply
   report-as (coded c) q =
-      subst (λ (x : List ℕ). length x < 100000) (same-report t (sound-fair t s) (requirements-good t s) (s .table) (s .asked) c (encodedAs t (coded c)) (held t s c q)) (report-few t (encodedAs t (coded c)) (whole-as t s c q))
+      subst (λ (x : List ℕ). length x ≤ longest) (same-report t (sound-fair t s) (requirements-good t s) (s .table) (s .asked) c (encodedAs t (coded c)) (held t s c q)) (report-few t (encodedAs t (coded c)) (whole-as t s c q))
   report-as (uncoded r) q = omega arith
 
   cover-as : (a : Coding) → coding t ≡ a → Small (coverOf t a)
@@ -42,7 +42,7 @@ module _ (t : Listing) (s : Sound t) where
     where
       go : (b : Bool) → Small (cond b (refuses Unmet 0) (says (cover t (c .bits))))
       go true = omega arith
-      go false = subst (λ (x : List ℕ). length (cover t x) < 100000) (held t s c q .bits) (cover-few t (encodedAs t (coded c)) (whole-as t s c q))
+      go false = subst (λ (x : List ℕ). length (cover t x) ≤ longest) (held t s c q .bits) (cover-few t (encodedAs t (coded c)) (whole-as t s c q))
   cover-as (uncoded r) q = omega arith
 
 on-small : (s : List ℕ) (f : Listing → Reply) → ((t : Listing) → Sound t → Small (f t)) → Small (onReading (reading s) f)

@@ -1,20 +1,18 @@
 -- What is wanted, what is said, and what the buffer then holds; and what an encoding is that both texts are written from.
 use mathlib.Core.Path.{_≡_}
-use mathlib.Core.Bool.{Bool, false, cond}
+use mathlib.Core.Bool.{cond}
 use mathlib.Core.List.{List, _++_}
 use Prim.Native.Nat.{ℕ, _^_, _≤_, _<_}
 use lib.Dec.{leb}
-use lib.ListN.{length, take, drop}
+use lib.ListN.{length, drop}
 use Rattle.rules.specs.Limits.{most-bits}
-use Rattle.rules.specs.Requirements.{pairsAndGroups}
-use Rattle.rules.specs.Code.{Code, coded, coding, unmetFrom}
-use Rattle.rules.specs.Cover.{cover}
+use Rattle.rules.specs.Code.{Code, coded, coding}
 use Rattle.rules.specs.Answers.{Reply, says, refuses, reportOf, coverOf, reportReply, coverReply}
 use Rattle.rules.specs.declared.Listing.{Listing}
 use Rattle.rules.specs.declared.Encoding.{Encoding}
 use Rattle.rules.specs.declared.Refusal.the-variants.{NoRoom}
 use Rattle.rules.proofs.Sound.{Sound}
-use Rattle.write_report.specs.Report.{Holds, encodedReport}
+use Rattle.write_report.specs.Report.{Holds}
 use Rattle.host_replies.specs.declared.Wanted.{Wanted}
 use Rattle.host_replies.specs.declared.Said.{Said}
 
@@ -31,6 +29,10 @@ replyOf Wanted.Report t = reportOf t (coding t)
 replyOf Wanted.Cover t = coverOf t (coding t)
 
 -- ---- what is said, and the buffer
+
+-- no text is longer: counts of 58 bytes, 32 lines of 39 for the states, 4,400 lines of 11 for the requirements, and the end
+abbrev pub longest : ℕ
+longest = 49709
 
 -- so many bytes are always enough
 abbrev pub room : ℕ

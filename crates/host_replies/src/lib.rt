@@ -62,7 +62,7 @@ fn say_in(wanted: Wanted, t: rules::Listing, e: rules::Encoding, out: &mut [u8])
         Wanted::Report => say_report(t.head.states, e, &fs[..words], out),
         Wanted::Cover => {
             let first = words - 3 * t.dichotomies;
-            if write_report::is_any_unmet(e, &fs[..first]) {
+            if code_judging::is_any_unmet(e, &fs[..first]) {
                 return Said::Refused(rules::Refusal::Unmet, 0);
             }
             say_cover(t, e, out)

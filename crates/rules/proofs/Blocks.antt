@@ -1,5 +1,5 @@
 -- A bit has one value on a whole block exactly when every member has it, and a bit that meets a requirement parts its two blocks.
-use mathlib.Core.Path.{_≡_}
+use mathlib.Core.Path.{_≡_, sym, _∙_}
 use mathlib.Core.Logic.{_⊎_, inl, inr, ⊎-elim}
 use mathlib.Core.Bool.{true, _&&_, _||_, false≢true}
 use mathlib.Core.List.{List, [], _∷_}
@@ -14,6 +14,7 @@ use Rattle.rules.specs.Requirements.{wholly, met, metByCode}
 use Rattle.rules.specs.declared.Requirement.{Requirement}
 use Rattle.sets.proofs.SizeMembers.{outside-or-member}
 use Rattle.rules.proofs.Or.{or-first, or-second, or-cases}
+use Rattle.rules.proofs.Judged.{met-by-nil, met-by-cons}
 
 -- the bit b has the value v on every member of the block
 abbrev pub On : ℕ → ℕ → ℕ → ℕ → Type 0
@@ -56,10 +57,9 @@ met-parts n r b e =
 
 -- the code meets a requirement by one of its bits
 pub met-by : (n : ℕ) (bits : List ℕ) (r : Requirement) → metByCode n bits r ≡ true → (j : ℕ) × (j < length bits) × Parts n r (getD bits j 0)
-unfolding metByCode
-met-by n [] r e = absurd (false≢true e)
+met-by n [] r e = absurd (false≢true (sym (met-by-nil n r) ∙ e))
 met-by n (b ∷ bs) r e =
     ⊎-elim
     (λ h. (0, omega arith, met-parts n r b h))
     (λ h. let m = met-by n bs r h in (suc (m .0), omega (arith, m .1), m .2))
-    (or-cases (met n r b) (metByCode n bs r) e)
+    (or-cases (met n r b) (metByCode n bs r) (sym (met-by-cons n b bs r) ∙ e))

@@ -1,40 +1,22 @@
 -- The lines of a cover's text.
 use mathlib.Core.Path.{_≡_, refl, ap, _∙_}
-use mathlib.Core.Bool.{Bool, true, false}
 use mathlib.Core.List.{List, [], _∷_, _++_, map, append-assoc}
-use Prim.Native.Nat.{ℕ, zero, suc, _+_, _/_, _%_}
+use Prim.Native.Nat.{ℕ, _+_}
 use native.Mathlib.Omega.{arith}
-use lib.Dec.{ltb}
 use lib.ListN.{length}
-use Rattle.rules.specs.Text.{bytes, lf, space, dot, nought, split, linesOf, decimalIn, decimal}
+use Rattle.rules.specs.Text.{bytes, lf, space, dot, split, linesOf, decimal}
 use Rattle.rules.specs.Listing.{rowsOf}
 use Rattle.rules.specs.Report.{joinedLines}
 use Rattle.rules.specs.Cover.{coverRow, cover}
 use Rattle.rules.specs.declared.Row.{Row}
 use Rattle.rules.specs.declared.Listing.{Listing}
-use Rattle.rules.proofs.Fields.{Without, none, more, without-append, split-part}
+use Rattle.rules.proofs.Fields.{Without, more, split-part}
+use Rattle.rules.proofs.Decimal.{decimal-without}
 use Rattle.rules.proofs.Fires.{row-without}
-
--- no LF in a number
-digit-without : (d : ℕ) → Without lf ((nought + d) ∷ [])
-digit-without d = more {x = nought + d} (λ e. omega arith) none
-
-decimal-in : (f v : ℕ) → Without lf (decimalIn f v)
-unfolding decimalIn
-decimal-in zero v = digit-without (v % 10)
-decimal-in (suc f) v = go (ltb v 10) refl (decimal-in f (v / 10))
-  where
-    go : (t : Bool) → ltb v 10 ≡ t → Without lf (decimalIn f (v / 10)) → Without lf (decimalIn (suc f) v)
-    go true e h = rw (e, decimalIn) (digit-without v)
-    go false e h = rw (e, decimalIn) (without-append h (digit-without (v % 10)))
-
-decimal-without : (v : ℕ) → Without lf (decimal v)
-unfolding decimal
-decimal-without v = decimal-in v v
 
 -- `.i 3`: a dot, a letter, a space and a number (the letters `i`, `o`, `p` are 105, 111, 112)
 marked : (c v : ℕ) → (c ≡ lf → ⊥) → Without lf (dot ∷ (c ∷ (space ∷ decimal v)))
-marked c v o = more {x = dot} (λ e. omega arith) (more o (more {x = space} (λ e. omega arith) (decimal-without v)))
+marked c v o = more {x = dot} (λ e. omega arith) (more o (more {x = space} (λ e. omega arith) (decimal-without lf (omega arith) v)))
 
 -- lines, one behind the other, each ended by LF
 joined-lines : (f : Row → List ℕ) → ((r : Row) → Without lf (f r)) → (rows : List Row) (rest : List ℕ)

@@ -2,6 +2,7 @@ pub mod Known
 pub mod Or
 pub mod Ways
 pub mod Counts
+pub mod Judged
 pub mod Blocks
 pub mod Meeting
 pub mod Masks
@@ -17,6 +18,7 @@ pub mod Asked
 pub mod Unmet
 pub mod Faces
 pub mod Fields
+pub mod Decimal
 pub mod Fires
 pub mod Granted
 pub mod Characters
@@ -25,6 +27,8 @@ pub mod Sound
 pub mod Most
 pub mod CoverLines
 pub mod Written
+pub mod ReportLines
+pub mod Reported
 pub mod Good
 pub mod Gains
 pub mod Built

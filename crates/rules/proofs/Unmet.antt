@@ -11,22 +11,16 @@ use Rattle.rules.specs.Listing.{noRequirement}
 use Rattle.rules.specs.Requirements.{met, metByCode}
 use Rattle.rules.specs.Code.{unmetBy, unmetFrom}
 use Rattle.rules.specs.declared.Requirement.{Requirement}
-use Rattle.rules.proofs.Or.{neither-first, neither-second, neither, or-first}
-
--- no bit of the code meets r
-abbrev pub MetByNone : ℕ → List ℕ → Requirement → Type 0
-MetByNone n bits r = (j : ℕ) → j < length bits → met n r (getD bits j 0) ≡ false
+use Rattle.rules.proofs.Or.{neither-first, neither-second, or-first}
+use Rattle.rules.proofs.Judged.{MetByNone, none-judged, met-by-nil, met-by-cons, unmet-judged}
 
 pub met-by-none : (n : ℕ) (bits : List ℕ) (r : Requirement) → metByCode n bits r ≡ false → MetByNone n bits r
-unfolding metByCode
 met-by-none n [] r e j h = absurd (omega arith)
-met-by-none n (b ∷ bs) r e zero h = neither-first (met n r b) (metByCode n bs r) e
-met-by-none n (b ∷ bs) r e (suc j) h = met-by-none n bs r (neither-second (met n r b) (metByCode n bs r) e) j (omega arith)
+met-by-none n (b ∷ bs) r e zero h = neither-first (met n r b) (metByCode n bs r) (sym (met-by-cons n b bs r) ∙ e)
+met-by-none n (b ∷ bs) r e (suc j) h = met-by-none n bs r (neither-second (met n r b) (metByCode n bs r) (sym (met-by-cons n b bs r) ∙ e)) j (omega arith)
 
 pub none-meets : (n : ℕ) (bits : List ℕ) (r : Requirement) → MetByNone n bits r → metByCode n bits r ≡ false
-unfolding metByCode
-none-meets n [] r h = refl
-none-meets n (b ∷ bs) r h = neither (met n r b) (metByCode n bs r) (h 0 (omega arith)) (none-meets n bs r (λ j q. h (suc j) (omega arith)))
+none-meets n bits r h = unmet-judged n bits r (none-judged n bits r h)
 
 -- ---- the numbers listed
 
@@ -147,16 +141,14 @@ module _ (n : ℕ) (bits : List ℕ) (r : Requirement) (rs : List Requirement) w
 pub unmet-all : (n : ℕ) (rs : List Requirement) → unmetIn n [] rs ≡ rs
 unfolding unmetIn
 unmet-all n [] = refl
-unmet-all n (r ∷ rs) = ap {B = List Requirement} (λ l. r ∷ l) (unmet-all n rs)
+unmet-all n (r ∷ rs) = in-unmet n [] r rs (met-by-nil n r) ∙ ap {B = List Requirement} (λ l. r ∷ l) (unmet-all n rs)
 
 module _ (n b : ℕ) (bs : List ℕ) where
   first-meets : (r : Requirement) → met n r b ≡ true → metByCode n (b ∷ bs) r ≡ true
-  unfolding metByCode
-  first-meets r e = or-first (met n r b) (metByCode n bs r) e
+  first-meets r e = met-by-cons n b bs r ∙ or-first (met n r b) (metByCode n bs r) e
 
   first-fails : (r : Requirement) → met n r b ≡ false → metByCode n (b ∷ bs) r ≡ metByCode n bs r
-  unfolding metByCode
-  first-fails r e = ap (λ (t : Bool). t || metByCode n bs r) e
+  first-fails r e = met-by-cons n b bs r ∙ ap (λ (t : Bool). t || metByCode n bs r) e
 
   pub unmet-then : (rs : List Requirement) → unmetIn n bs (unmetBy n b rs) ≡ unmetIn n (b ∷ bs) rs
   unfolding unmetIn unmetBy

@@ -107,10 +107,10 @@ cover-of t bits text sound none e = record { distinct = distinct; lines = lines;
 
 -- ---- the reply
 
-says-same : (a b : List ℕ) → says a ≡ says b → a ≡ b
+pub says-same : (a b : List ℕ) → says a ≡ says b → a ≡ b
 says-same a b e = cc
 
-says-not : (f : Refusal) (k : ℕ) (text : List ℕ) → refuses f k ≡ says text → ⊥
+pub says-not : (f : Refusal) (k : ℕ) (text : List ℕ) → refuses f k ≡ says text → ⊥
 says-not f k text e = let z : _≡_ {A = ℕ} 0 1 = cc in omega arith
 
 none-listed : (l : List ℕ) → leb 1 (length l) ≡ false → l ≡ []

@@ -3,6 +3,8 @@ use mathlib.Core.List.{List, [], _∷_}
 use Prim.Native.Nat.{ℕ}
 use Rattle.rules.specs.Refusals.{number}
 use Rattle.rules.specs.declared.Verdict.{Verdict}
+use Rattle.rules.specs.declared.Judgement.{Judgement}
+use Rattle.rules.specs.declared.Judgement.the-variants.{By, ByNone}
 use Rattle.rules.specs.declared.Numeral.{Numeral}
 use Rattle.rules.specs.declared.Numeral.the-variants.{Is, Bad}
 use Rattle.rules.specs.declared.HeadLine.{HeadLine}
@@ -27,6 +29,11 @@ verdictNumbers (Verdict.Refused r line) = record { refusal = number r; values = 
 unfoldable pub numeralNumbers : Numeral → Numbers
 numeralNumbers (Is v) = holds (v ∷ [])
 numeralNumbers Bad = record { refusal = number BadLine; values = [] }
+
+-- a judgement: the bit's number; that none meets it refuses nothing by itself (9 is the cover's)
+unfoldable pub judgementNumbers : Judgement → Numbers
+judgementNumbers (By b) = holds (b .0 ∷ [])
+judgementNumbers ByNone = holds []
 
 -- the readers of one line
 unfoldable pub headNumbersOf : HeadLine → Numbers

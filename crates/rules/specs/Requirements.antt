@@ -1,11 +1,13 @@
--- 01, "Requirements": which there are, in which order, and what meeting one is (001, section II).
-use mathlib.Core.Bool.{Bool, false, _&&_, _||_, not, cond}
+-- 01, "Requirements": which there are, in which order, what meeting one is (001, section II), and by which bit a code does.
+use mathlib.Core.Bool.{Bool, true, false, _&&_, _||_, not, cond}
 use mathlib.Core.List.{List, [], _∷_, _++_, map}
 use Prim.Native.Nat.{ℕ, zero, suc, _+_}
 use lib.Dec.{leb, ltb, eqb}
 use Rattle.sets.specs.Sets.{has, only, size, every, statesFrom}
 use Rattle.rules.specs.Listing.{rowsOf, dichotomiesOf}
 use Rattle.rules.specs.declared.Requirement.{Requirement}
+use Rattle.rules.specs.declared.Judgement.{Judgement}
+use Rattle.rules.specs.declared.Judgement.the-variants.{By, ByNone}
 use Rattle.rules.specs.declared.Row.{Row}
 use Rattle.rules.specs.declared.Listing.{Listing}
 
@@ -63,11 +65,25 @@ unfoldable pub met : ℕ → Requirement → ℕ → Bool
 unfolding wholly
 met n r b = (wholly n b 0 (r .first) && wholly n b 1 (r .second)) || (wholly n b 1 (r .first) && wholly n b 0 (r .second))
 
--- a code meets a requirement when some bit does, so a code of no bits meets none
-unfoldable pub metByCode : ℕ → List ℕ → Requirement → Bool
+-- 02, request 04: the judgement of a requirement against a code is the lowest bit that meets it, from 0, leftmost first, or that none does. The first of
+-- these bits has the number k.
+unfoldable pub judgedFrom : ℕ → ℕ → List ℕ → Requirement → Judgement
 unfolding met
-metByCode n [] r = false
-metByCode n (b ∷ bs) r = met n r b || metByCode n bs r
+judgedFrom k n [] r = ByNone
+judgedFrom k n (b ∷ bs) r = cond (met n r b) (By (record { 0 = k })) (judgedFrom (suc k) n bs r)
+
+unfoldable pub judgement : ℕ → List ℕ → Requirement → Judgement
+unfolding judgedFrom
+judgement n bits r = judgedFrom 0 n bits r
+
+unfoldable pub isBy : Judgement → Bool
+isBy (By b) = true
+isBy ByNone = false
+
+-- a code meets a requirement where some bit is judged to, so a code of no bits meets none
+unfoldable pub metByCode : ℕ → List ℕ → Requirement → Bool
+unfolding judgement isBy
+metByCode n bits r = isBy (judgement n bits r)
 
 -- how many of the requirements a bit meets
 unfoldable pub metCount : ℕ → List Requirement → ℕ → ℕ

@@ -1,6 +1,7 @@
 // The things that document 01 names: states, requirements, rows, listings, refusals. Their rules stand in specs/.
 ghost use mathlib.Core.Path.{_≡_};
 ghost use Rattle.rules.specs.Refusals.{number};
+ghost use Rattle.rules.specs.Requirements.{isBy};
 
 // The limits of a listing and of a trial record.
 pub const MOST_STATES: usize = 32;
@@ -26,13 +27,34 @@ pub const MOST_TRIAL: usize = 256;
 #[repr(C)]
 pub struct StateNumber(pub usize);
 
-// A requirement's number, from 0. Judgements of meeting and `UN` lines take it.
+// A requirement's number, from 0. Judgements of meeting, `BY` and `UN` lines take it.
 pub struct RequirementNumber(pub usize);
+
+// A bit's number in a code, from 0, leftmost first.
+pub struct BitNumber(pub usize);
 
 // A requirement: its first and its second block, each a set of states.
 pub struct Requirement {
     pub first: u64,
     pub second: u64,
+}
+
+// What a code is judged to do for a requirement: the lowest bit that meets it, or that none does.
+pub enum Judgement {
+    By(BitNumber),
+    ByNone,
+}
+
+impl Judgement {
+    // Whether a bit meets it.
+    pub fn is_met(self) -> bool
+        ensures { λ r. ⌜ r ≡ isBy self ⌝ }
+    {
+        match self {
+            Judgement::By(_) => true,
+            Judgement::ByNone => false,
+        }
+    }
 }
 
 // What `MC` says: how many states, inputs and outputs, and the width.

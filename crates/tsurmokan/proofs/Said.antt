@@ -39,7 +39,7 @@ unfolding saying
 within-saying (says text) out h = go (leb (length text) (length out))
   where
     go : (b : Bool) → let c : Said × List ℕ = cond b (Said.Text (length text), text ++ drop (length text) out) (Said.Refused NoRoom 0, out) in Within (c .0)
-    go true = h
+    go true = omega arith
     go false = omega arith
 within-saying (refuses r line) out h = h
 

@@ -10,7 +10,7 @@ use Rattle.rules.specs.Cover.{cover}
 use Rattle.rules.specs.declared.Head.{Head}
 use Rattle.rules.specs.declared.Row.{Row}
 use Rattle.rules.specs.declared.Listing.{Listing}
-use Rattle.write_pen.proofs.Decimal.{decimal-length}
+use Rattle.rules.proofs.Decimal.{decimal-length}
 use Rattle.write_faces.proofs.Length.{row-length}
 use Rattle.write_cover.specs.Covers.{rowTexts, countsText, Bounded}
 use Rattle.write_cover.proofs.Whole.{cover-text}

@@ -10,11 +10,11 @@ fn put_counts(out: &mut [u8], at: usize, inputs: usize, outputs: usize, rows: us
     ensures { λ r. ⌜ Wrote (now (out .entry)) at (countsText inputs outputs rows) r (now (out .exit)) ⌝ }
 {
     let p = write_pen::put_bytes(out, at, b".i ");
-    let q = write_pen::put_field(out, p, inputs as u64, 10);
+    let q = write_pen::put_field(out, p, inputs as u64, b'\n');
     let r = write_pen::put_bytes(out, q, b".o ");
-    let s = write_pen::put_field(out, r, outputs as u64, 10);
+    let s = write_pen::put_field(out, r, outputs as u64, b'\n');
     let t = write_pen::put_bytes(out, s, b".p ");
-    write_pen::put_field(out, t, rows as u64, 10)
+    write_pen::put_field(out, t, rows as u64, b'\n')
 }
 
 // Whether so many inputs and outputs are within 01's limits.

@@ -47,14 +47,14 @@ fn below(n: usize, g: u64) -> u64
 fn put_face(out: &mut [u8], at: usize, n: usize, bits: &[u64], g: u64) -> usize
     ensures { λ r. ⌜ Wrote (now (out .entry)) at (faceText n (now (bits .entry)) g) r (now (out .exit)) ⌝ }
 {
-    write_pen::put_values(out, at, bits, below(n, g), 45)
+    write_pen::put_values(out, at, bits, below(n, g), b'-')
 }
 
 // The code of the next state, zeros if the row names none: 1 in each bit that has value 1 on the state named.
 fn put_next(out: &mut [u8], at: usize, bits: &[u64], next: u64) -> usize
     ensures { λ r. ⌜ Wrote (now (out .entry)) at (nextText (now (bits .entry)) next) r (now (out .exit)) ⌝ }
 {
-    write_pen::put_values(out, at, bits, next, 49)
+    write_pen::put_values(out, at, bits, next, b'1')
 }
 
 // A row's line: the input, the face, a space, the code of the next state, the outputs; a dash of the outputs is a 0.
@@ -65,8 +65,8 @@ pub fn put_row(out: &mut [u8], at: usize, head: Head, bits: &[u64], row: Row) ->
     let outputs = row.outputs;
     let p = put_pattern(out, at, input, head.inputs);
     let q = put_face(out, p, head.states, bits, row.group);
-    let r = write_pen::put_byte(out, q, 32);
+    let r = write_pen::put_byte(out, q, b' ');
     let s = put_next(out, r, bits, row.next);
     let t = write_pen::put_digits(out, s, outputs.ones as u64, head.outputs);
-    write_pen::put_byte(out, t, 10)
+    write_pen::put_byte(out, t, b'\n')
 }

@@ -44,10 +44,10 @@ fn put_number(out: &mut [u8], at: usize, v: u64) -> usize
     ensures { λ r. ⌜ Wrote (now (out .entry)) at (decimal v) r (now (out .exit)) ⌝ }
 {
     if v < 10 {
-        return put_byte(out, at, 48 + v as u8);
+        return put_byte(out, at, b'0' + v as u8);
     }
     let to = put_number(out, at, v / 10);
-    put_byte(out, to, 48 + (v % 10) as u8)
+    put_byte(out, to, b'0' + (v % 10) as u8)
 }
 
 // A number, and the byte that ends its field.
@@ -63,9 +63,9 @@ pub fn digit_byte(m: u64, s: usize) -> u8
     ensures { λ r. ⌜ r ≡ nought + has m s ⌝ }
 {
     if sets::member(m, s) {
-        return 49;
+        return b'1';
     }
-    48
+    b'0'
 }
 
 // The lowest n digits of m as characters, the lowest first.
@@ -86,10 +86,10 @@ fn value_byte(g: u64, b: u64, mixed: u8) -> u8
     ensures { λ r. ⌜ r ≡ valueAt g mixed b ⌝ }
 {
     if b & g == 0 {
-        return 48;
+        return b'0';
     }
     if b & g == g {
-        return 49;
+        return b'1';
     }
     mixed
 }

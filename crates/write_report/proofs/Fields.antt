@@ -11,9 +11,11 @@ use borrow.Author.Tests.{ltb-true, ltb-false}
 use Rattle.sets.specs.Sets.{flip}
 use Rattle.sets.proofs.Members.{has-high}
 use Rattle.rules.specs.declared.StateNumber.{StateNumber}
+use Rattle.rules.specs.declared.RequirementNumber.{RequirementNumber}
+use Rattle.rules.specs.declared.BitNumber.{BitNumber}
 use Rattle.rules.specs.Text.{bytes, digit, one, dash, space, lf, decimal}
 use Rattle.rules.specs.Code.{codeOf}
-use Rattle.rules.specs.Report.{digits, codeText, countLine, stateLine}
+use Rattle.rules.specs.Report.{digits, codeText, countLine, stateLine, metLine}
 use Rattle.rules.specs.Cover.{nextCode}
 use Rattle.rules.proofs.Fires.{next-code}
 use Rattle.write_pen.specs.Pen.{valuesText}
@@ -57,3 +59,7 @@ pub state-fields : (bits : List ℕ) (s : StateNumber)
     → bytes "SC " ++ ((decimal (s .0) ++ (space ∷ [])) ++ (codeText (codeOf bits (s .0)) ++ (lf ∷ []))) ≡ stateLine bits s
 unfolding stateLine
 state-fields bits s = simp append-assoc
+
+pub met-fields : (r : RequirementNumber) (b : BitNumber) → bytes "BY " ++ ((decimal (r .0) ++ (space ∷ [])) ++ (decimal (b .0) ++ (lf ∷ []))) ≡ metLine r b
+unfolding metLine
+met-fields r b = simp append-assoc

@@ -9,19 +9,23 @@ use Rattle.sets.specs.Sets.{has}
 use Rattle.rules.specs.declared.Encoding.{Encoding}
 use Rattle.rules.specs.declared.StateNumber.{StateNumber}
 use Rattle.rules.specs.declared.RequirementNumber.{RequirementNumber}
+use Rattle.rules.specs.declared.BitNumber.{BitNumber}
+use Rattle.rules.specs.declared.Judgement.{Judgement}
+use Rattle.rules.specs.declared.Judgement.the-variants.{By, ByNone}
 use Rattle.rules.specs.Limits.{most-states, most-bits, most-asked}
 use Rattle.rules.specs.Text.{nought}
 use Rattle.rules.specs.Code.{codeOf, unmetFrom}
-use Rattle.rules.specs.Report.{codeText, countLine, stateLine, unmetLine}
-use Rattle.write_pen.proofs.Decimal.{decimal-length}
-use Rattle.write_report.specs.Report.{stateLines, unmetLines, linesOf, firstOf, encodedReport}
-use Rattle.rules.specs.Requirements.{metByCode}
+use Rattle.rules.specs.Report.{codeText, countLine, stateLine, metLine, unmetLine}
+use Rattle.rules.proofs.Decimal.{decimal-length}
+use Rattle.write_report.specs.Report.{stateLines, lineFor, linesOf, firstOf, encodedReport}
+use Rattle.write_report.specs.declared.Listed.{Listed}
+use Rattle.rules.specs.Requirements.{judgement, metByCode}
 use Rattle.rules.specs.declared.Requirement.{Requirement}
+use Rattle.rules.proofs.Judged.{judged-by}
 use Rattle.rules.proofs.Unmet.{listed-met, listed-unmet}
 use Rattle.families.specs.Families.{requirementsIn}
 use Rattle.write_report.proofs.Fields.{count-fields, state-fields}
 use Rattle.write_report.proofs.Lines.{states-none, states-more}
-use Rattle.write_report.proofs.Unmet.{from-none, numbers-none, numbers-cons}
 
 -- ---- lines
 
@@ -32,6 +36,10 @@ code-length (b ∷ bits) s h = omega (arith, length-map (codeOf bits s) (λ d. n
 
 state-length : (bits : List ℕ) (s : StateNumber) → length bits ≤ most-bits → s .0 < 100 → length (stateLine bits s) ≤ 39
 state-length bits s h k = rw (← state-fields bits s) (simp length-append (omega (arith, decimal-length 1 (s .0) k, code-length bits (s .0) h)))
+
+met-length : (r : RequirementNumber) (b : BitNumber) → r .0 < 10000 → b .0 < 100 → length (metLine r b) ≤ 11
+unfolding metLine
+met-length r b h k = simp length-append (omega (arith, decimal-length 3 (r .0) h, decimal-length 1 (b .0) k))
 
 unmet-length : (r : RequirementNumber) → r .0 < 10000 → length (unmetLine r) ≤ 8
 unfolding unmetLine
@@ -52,17 +60,27 @@ states-length bits (suc n) h k =
     let ih : length (stateLines bits n) ≤ 39 * n = states-length bits n h (omega arith) in
     rw (e, states-more bits n, length-append) (omega (arith, state-length bits (record { 0 = n }) h (omega arith)))
 
-unmets-length : (k n : ℕ) (bits : List ℕ) (rs : List Requirement) → k + length rs ≤ 10000 → length (unmetLines (unmetFrom k n bits rs)) ≤ 8 * length rs
-unmets-length k n bits [] h = rw (from-none k n bits, numbers-none) (omega arith)
-unmets-length k n bits (r ∷ rs) h = go (metByCode n bits r) refl (unmets-length (suc k) n bits rs (omega arith))
+-- a requirement has one line of the two kinds
+judged-length : (k : ℕ) (bits : List ℕ) (rs : List Requirement) → length bits ≤ 100 → k + length rs ≤ 10000
+    → length (linesOf Listed.Met k bits rs) + length (linesOf Listed.Unmet k bits rs) ≤ 11 * length rs
+unfolding linesOf lineFor
+judged-length k bits [] w h = omega arith
+judged-length k bits (r ∷ rs) w h =
+    let met = linesOf Listed.Met (suc k) bits rs in
+    let unmet = linesOf Listed.Unmet (suc k) bits rs in
+    let j = judgement 64 bits r in
+    let one = one-length j refl in
+    let more = judged-length (suc k) bits rs w (omega arith) in
+    omega (arith, one, more, length-append (lineFor Listed.Met k j) met, length-append (lineFor Listed.Unmet k j) unmet)
   where
-    go : (t : Bool) → metByCode n bits r ≡ t → length (unmetLines (unmetFrom (suc k) n bits rs)) ≤ 8 * length rs → length (unmetLines (unmetFrom k n bits (r ∷ rs))) ≤ 8 * suc (length rs)
-    go true e ih = rw (listed-met k n bits r rs e) (omega arith)
-    go false e ih = rw (listed-unmet k n bits r rs e, numbers-cons, length-append) (omega (arith, unmet-length (record { 0 = k }) (omega arith)))
+    one-length : (j : Judgement) → judgement 64 bits r ≡ j → length (lineFor Listed.Met k j) + length (lineFor Listed.Unmet k j) ≤ 11
+    one-length (By b) e = omega (arith, met-length (record { 0 = k }) b (omega arith) (omega (arith, judged-by 64 bits r b e .below)))
+    one-length ByNone e = omega (arith, unmet-length (record { 0 = k }) (omega arith))
 
 -- no more are unmet than there are
 pub unmet-few : (k n : ℕ) (bits : List ℕ) (rs : List Requirement) → length (unmetFrom k n bits rs) ≤ length rs
-unmet-few k n bits [] = rw (from-none k n bits) (omega arith)
+unfolding unmetFrom
+unmet-few k n bits [] = omega arith
 unmet-few k n bits (r ∷ rs) = go (metByCode n bits r) refl (unmet-few (suc k) n bits rs)
   where
     go : (t : Bool) → metByCode n bits r ≡ t → length (unmetFrom (suc k) n bits rs) ≤ length rs → length (unmetFrom k n bits (r ∷ rs)) ≤ suc (length rs)
@@ -72,12 +90,12 @@ unmet-few k n bits (r ∷ rs) = go (metByCode n bits r) refl (unmet-few (suc k) 
 -- ---- the whole
 
 pub report-length : (n : ℕ) (fs : List ℕ) (e : Encoding) → n ≤ most-states → length (requirementsIn (firstOf fs)) ≤ most-asked
-    → e .width ≤ most-bits → e .asked ≤ most-asked → e .unmet ≤ most-asked → e .passes < 2 ^ 64 → e .looks < 2 ^ 64 → length (encodedReport n fs e) ≤ 36509
-unfolding encodedReport linesOf
+    → e .width ≤ most-bits → e .asked ≤ most-asked → e .unmet ≤ most-asked → e .passes < 2 ^ 64 → e .looks < 2 ^ 64 → length (encodedReport n fs e) ≤ 49709
+unfolding encodedReport
 report-length n fs e hn hr hw ha hu hp hl =
     let bits : List ℕ = take (e .width) (e .bits) in
     let narrow : length bits ≤ most-bits = omega (arith, length-take (e .width) (e .bits)) in
     let c = count-length (e .width) (e .asked) (e .unmet) (e .passes) (e .looks) (omega arith) (omega arith) (omega arith) hp hl in
     let s = states-length bits n narrow (omega arith) in
-    let l = unmets-length 0 64 bits (requirementsIn (firstOf fs)) (omega arith) in
+    let l = judged-length 0 bits (requirementsIn (firstOf fs)) (omega arith) (omega arith) in
     simp length-append (omega arith)

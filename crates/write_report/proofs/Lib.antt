@@ -1,5 +1,5 @@
 pub mod Fields
 pub mod Lines
-pub mod Unmet
+pub mod Judged
 pub mod Same
 pub mod Length

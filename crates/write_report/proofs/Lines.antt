@@ -17,6 +17,7 @@ use Rattle.rules.specs.Text.{bytes}
 use Rattle.rules.specs.Report.{countLine, stateLine, joinedLines}
 use Rattle.write_pen.proofs.Growing.{states-one, joined-more}
 use Rattle.write_report.specs.Report.{stateLines, linesOf, most-words, firstOf, encodedReport}
+use Rattle.write_report.specs.declared.Listed.{Listed}
 
 -- ---- lines of states
 
@@ -47,7 +48,8 @@ pub report-parts : (n : ℕ) (fs : List ℕ) (e : Encoding) {w k : ℕ}
     → w ≡ min (e .width) most-bits
     → k ≡ min (length fs) most-words
     → countLine (e .width) (e .asked) (e .unmet) (e .passes) (e .looks)
-    ++ (stateLines (take w (e .bits)) n ++ (linesOf 0 (take w (e .bits)) (requirementsIn (take k fs)) ++ bytes "EN\n"))
+    ++ (stateLines (take w (e .bits)) n
+    ++ (linesOf Listed.Met 0 (take w (e .bits)) (requirementsIn (take k fs)) ++ (linesOf Listed.Unmet 0 (take w (e .bits)) (requirementsIn (take k fs)) ++ bytes "EN\n")))
     ≡ encodedReport n fs e
 unfolding encodedReport
 report-parts n fs e hb hw hk = rw (hw, take-most (e .width) most-bits (e .bits) hb, first-words fs hk)

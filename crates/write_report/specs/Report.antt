@@ -1,20 +1,21 @@
 -- The report as written from an encoder's answer and the families of a listing, line by line.
 use mathlib.Core.Path.{_≡_}
-use mathlib.Core.Bool.{Bool}
-use mathlib.Core.List.{List, _++_, map}
-use Prim.Native.Nat.{ℕ, _+_, _*_}
-use lib.Dec.{leb}
+use mathlib.Core.List.{List, [], _∷_, _++_, map}
+use Prim.Native.Nat.{ℕ, suc, _+_, _*_}
 use lib.ListN.{length, take}
 use Rattle.sets.specs.Sets.{statesFrom}
 use Rattle.rules.specs.Limits.{most-states, most-rows, most-dichotomies}
 use Rattle.rules.specs.Text.{bytes}
-use Rattle.rules.specs.Requirements.{requirements}
-use Rattle.rules.specs.Code.{Code, unmet, unmetFrom}
-use Rattle.rules.specs.Report.{countLine, stateLine, unmetLine, joinedLines}
+use Rattle.rules.specs.Requirements.{judgement, requirements}
+use Rattle.rules.specs.Code.{Code, unmet}
+use Rattle.rules.specs.Report.{countLine, stateLine, metLine, unmetLine, joinedLines}
 use Rattle.rules.specs.declared.Requirement.{Requirement}
+use Rattle.rules.specs.declared.Judgement.{Judgement}
+use Rattle.rules.specs.declared.Judgement.the-variants.{By, ByNone}
 use Rattle.rules.specs.declared.Listing.{Listing}
 use Rattle.rules.specs.declared.Encoding.{Encoding}
 use Rattle.families.specs.Families.{requirementsIn}
+use Rattle.write_report.specs.declared.Listed.{Listed}
 
 -- a line for each of the first n states
 unfoldable pub stateLines : List ℕ → ℕ → List ℕ
@@ -24,9 +25,18 @@ stateLines bits n = joinedLines (map (λ s. stateLine bits (record { 0 = s })) (
 unfoldable pub unmetLines : List ℕ → List ℕ
 unmetLines rs = joinedLines (map (λ r. unmetLine (record { 0 = r })) rs)
 
--- the lines of the requirements that no bit meets, where the first of the list has the number k; a set of states has 64 digits
-unfoldable pub linesOf : ℕ → List ℕ → List Requirement → List ℕ
-linesOf k bits rs = unmetLines (unmetFrom k 64 bits rs)
+-- the line of the requirement with the number k, by its judgement, in the list of those that are met or of those that are not
+unfoldable pub lineFor : Listed → ℕ → Judgement → List ℕ
+lineFor Listed.Met k (By b) = metLine (record { 0 = k }) b
+lineFor Listed.Met k ByNone = []
+lineFor Listed.Unmet k (By b) = []
+lineFor Listed.Unmet k ByNone = unmetLine (record { 0 = k })
+
+-- the lines of requirements, the first of which has the number k; a set of states has 64 digits
+unfoldable pub linesOf : Listed → ℕ → List ℕ → List Requirement → List ℕ
+unfolding lineFor
+linesOf l k bits [] = []
+linesOf l k bits (r ∷ rs) = lineFor l k (judgement 64 bits r) ++ linesOf l (suc k) bits rs
 
 -- of more families than a listing can have, those that it can
 abbrev pub most-words : ℕ
@@ -41,12 +51,9 @@ encodedReport n fs e =
     let bits : List ℕ = take (e .width) (e .bits) in
     countLine (e .width) (e .asked) (e .unmet) (e .passes) (e .looks)
     ++ (stateLines bits n
-    ++ (linesOf 0 bits (requirementsIn (firstOf fs))
-    ++ bytes "EN\n"))
-
--- no bit of the answer meets one of the requirements of some families
-unfoldable pub anyUnmet : List ℕ → Encoding → Bool
-anyUnmet fs e = leb 1 (length (unmetFrom 0 64 (take (e .width) (e .bits)) (requirementsIn (firstOf fs))))
+    ++ (linesOf Listed.Met 0 bits (requirementsIn (firstOf fs))
+    ++ (linesOf Listed.Unmet 0 bits (requirementsIn (firstOf fs))
+    ++ bytes "EN\n")))
 
 -- the answer holds the code c of the listing t: its bits and its counts
 pub record Holds (t : Listing) (c : Code) (e : Encoding) : Type 0 where

@@ -7,7 +7,7 @@ use lib.ListN.{length, take}
 use Rattle.rules.specs.Cover.{cover}
 use Rattle.write_pen.proofs.Laws.{wrote-as}
 use Rattle.write_cover.proofs.Whole.{cover-bounded}
-use Rattle.host_replies.proofs.Sayings.{told-length, no-space, written, bounded, cover-few}
+use Rattle.host_replies.proofs.Sayings.{told-length, no-space, written, bounded, cover-fits}
 use Rattle.host_replies.proofs.say_cover.Statement.{statement}
 use Rattle.host_replies.proofs.say_cover.Tie as tie
 
@@ -20,7 +20,7 @@ put-cover-requires c κs = search needs
 returns : tie.Need-returns
 returns c =
     let s = c .before .before .before .before .before .before .before in
-    let few = cover-few _ _ (s .pre) in
+    let few = cover-fits _ _ (s .pre) in
     no-space _ (s .args .out .now) _ (c .if2 .taken) (told-length (wrote-as (c .before .before .put-cover .ensures) (cover-bounded (s .args .t) _ (bounded _ _ (s .pre)))) few)
 
 put-cover-requires-2 : tie.Need-put-cover-requires-2
@@ -32,7 +32,7 @@ same-length c = search needs
 returns-2 : tie.Need-returns-2
 returns-2 c =
     let s = c .before .before .before .before .before .before .before in
-    let few = cover-few _ _ (s .pre) in
+    let few = cover-fits _ _ (s .pre) in
     let is = cover-bounded (s .args .t) (take (s .args .e .width) (s .args .e .bits)) (bounded _ _ (s .pre)) in
     let fits : length (cover (s .args .t) (take (s .args .e .width) (s .args .e .bits))) ≤ length (s .args .out .now) =
     ⊎-elim (λ w. omega (arith, told-length (wrote-as (w .2 .ensures) is) few, w .4 .left)) (λ w. omega (arith, w .left, few)) (c .before .before .before .before .if1 .came) in

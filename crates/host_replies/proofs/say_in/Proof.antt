@@ -8,12 +8,13 @@ use borrow.Author.Needs.{needs}
 use lib.ListN.{length, take}
 use lib.Seq.{length-take-le}
 use Rattle.rules.specs.Answers.{says}
-use Rattle.write_report.specs.Report.{encodedReport, anyUnmet}
+use Rattle.write_report.specs.Report.{encodedReport}
+use Rattle.code_judging.specs.Judging.{anyUnmet}
 use Rattle.code_drawing.specs.Drawing.{firstFamilies}
 use Rattle.code_drawing.proofs.Growing.{drew-words, drew-fits}
 use Rattle.code_drawing.proofs.Whole.{all-length, first-words}
 use Rattle.host_replies.specs.Saying.{room, saying}
-use Rattle.host_replies.proofs.Sayings.{report-few, report-said, cover-said}
+use Rattle.host_replies.proofs.Sayings.{report-fits, report-said, cover-said}
 use Rattle.host_replies.proofs.say_in.Statement.{statement}
 use Rattle.host_replies.proofs.say_in.Tie as tie
 
@@ -46,7 +47,7 @@ say-report-requires : tie.Need-say-report-requires
 say-report-requires c κs =
     let d = c .before .before .before .before in
     let s = d .before .before .before in
-    subst (λ (fs : List ℕ). length (encodedReport (s .args .t .head .states) fs (s .args .e)) < room) (sym (drew-words (d .draw-all .ensures))) (report-few _ _ (s .pre))
+    subst (λ (fs : List ℕ). length (encodedReport (s .args .t .head .states) fs (s .args .e)) < room) (sym (drew-words (d .draw-all .ensures))) (report-fits _ _ (s .pre))
 
 enum-told-2 : tie.Need-enum-told-2
 enum-told-2 c = search needs

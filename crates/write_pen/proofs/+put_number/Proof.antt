@@ -2,7 +2,7 @@
 use mathlib.Core.Path.{sym}
 use borrow.Author.Needs.{needs}
 use Rattle.write_pen.proofs.Laws.{wrote-then, wrote-as}
-use Rattle.write_pen.proofs.Decimal.{decimal-low, decimal-more}
+use Rattle.rules.proofs.Decimal.{decimal-low, decimal-more}
 use Prim.Native.Nat.{ℕ, _<_}
 use borrow.Fn.Kinds.{In}
 use borrow.Fn.PlainCycle.{Measures, is, falls, and}

@@ -1,12 +1,12 @@
 -- `write_report::put_report` meets its contract.
-use mathlib.Core.Path.{_≡_, sym, _∙_}
-use native.Mathlib.Omega.{arith}
-use borrow.Author.Needs.{needs}
-use lib.ListN.{length, length-map, length-take}
+use lib.ListN.{length-map, length-take, length}
 use lib.Seq.{length-take-le}
 use Rattle.rules.specs.Limits.{most-bits}
 use Rattle.write_pen.proofs.Laws.{wrote-then, wrote-as}
 use Rattle.write_report.proofs.Lines.{report-parts}
+use mathlib.Core.Path.{_≡_, sym, _∙_}
+use native.Mathlib.Omega.{arith}
+use borrow.Author.Needs.{needs}
 use Rattle.write_report.proofs.put_report.Statement.{statement}
 use Rattle.write_report.proofs.put_report.Tie as tie
 
@@ -24,25 +24,47 @@ put-count-line-requires : tie.Need-put-count-line-requires
 put-count-line-requires c κs = search needs
 
 array-share-prefix-bits : tie.Need-array-share-prefix-bits
-array-share-prefix-bits c = omega (arith, long (c .before .before .before .before .before .before .before .before .before .before))
+array-share-prefix-bits c =
+    omega (arith, long (c .before .before .before .before .before .before .before .before .before .before))
 
 slice-aggregate-put-state-lines : tie.Need-slice-aggregate-put-state-lines
-slice-aggregate-put-state-lines c = sym (length-take-le _ _ (omega (arith, long (c .before .before .before .before .before .before .before .before .before .before .before))))
+slice-aggregate-put-state-lines c =
+    sym (length-take-le _ _ (omega (arith, long (c .before .before .before .before .before .before .before .before .before .before .before))))
 
 put-state-lines-requires : tie.Need-put-state-lines-requires
 put-state-lines-requires c κs = search needs
 
 array-share-prefix-bits-2 : tie.Need-array-share-prefix-bits-2
-array-share-prefix-bits-2 c = omega (arith, long (c .before .before .before .before .before .before .before .before .before .before .before .before .before .before .before))
+array-share-prefix-bits-2 c =
+    omega (arith, long (c .before .before .before .before .before .before .before .before .before .before .before .before .before .before .before))
 
-slice-aggregate-put-families : tie.Need-slice-aggregate-put-families
-slice-aggregate-put-families c = sym (length-take-le _ _ (omega (arith, long (c .before .before .before .before .before .before .before .before .before .before .before .before .before .before .before .before))))
+slice-aggregate-put-lines : tie.Need-slice-aggregate-put-lines
+slice-aggregate-put-lines c =
+    sym (length-take-le _ _ (omega (arith, long (c .before .before .before .before .before .before .before .before .before .before .before .before .before .before .before .before))))
 
-slice-aggregate-put-families-2 : tie.Need-slice-aggregate-put-families-2
-slice-aggregate-put-families-2 c = sym (length-take-le _ (c .before .before .before .before .before .before .before .before .before .before .before .before .before .before .before .before .before .args .fs .now) (omega (arith, c .before .before .before .before .before .before .before .before .before .before .before .before .before .least2 .ensures)))
+slice-aggregate-put-lines-2 : tie.Need-slice-aggregate-put-lines-2
+slice-aggregate-put-lines-2 c =
+    sym (length-take-le _ (c .before .before .before .before .before .before .before .before .before .before .before .before .before .before .before .before .before .args .fs .now) (omega (arith, c .before .before .before .before .before .before .before .before .before .before .before .before .before .least2 .ensures)))
 
-put-families-requires : tie.Need-put-families-requires
-put-families-requires c κs = omega (arith, length-take (c .before .before .before .before .before .before .before .before .before .before .before .before .before .least2 .result) (c .before .before .before .before .before .before .before .before .before .before .before .before .before .before .before .before .before .args .fs .now), c .before .before .before .before .before .before .before .before .before .before .before .before .before .least2 .ensures)
+put-lines-requires : tie.Need-put-lines-requires
+put-lines-requires c κs =
+    omega (arith, length-take (c .before .before .before .before .before .before .before .before .before .before .before .before .before .least2 .result) (c .before .before .before .before .before .before .before .before .before .before .before .before .before .before .before .before .before .args .fs .now), c .before .before .before .before .before .before .before .before .before .before .before .before .before .least2 .ensures)
+
+array-share-prefix-bits-3 : tie.Need-array-share-prefix-bits-3
+array-share-prefix-bits-3 c =
+    omega (arith, long (c .before .before .before .before .before .before .before .before .before .before .before .before .before .before .before .before .before .before .before .before .before))
+
+slice-aggregate-put-lines-3 : tie.Need-slice-aggregate-put-lines-3
+slice-aggregate-put-lines-3 c =
+    sym (length-take-le _ _ (omega (arith, long (c .before .before .before .before .before .before .before .before .before .before .before .before .before .before .before .before .before .before .before .before .before .before))))
+
+slice-aggregate-put-lines-4 : tie.Need-slice-aggregate-put-lines-4
+slice-aggregate-put-lines-4 c =
+    sym (length-take-le _ (c .before .before .before .before .before .before .before .before .before .before .before .before .before .before .before .before .before .before .before .before .before .before .before .args .fs .now) (omega (arith, c .before .before .before .before .before .before .before .before .before .before .before .before .before .before .before .before .before .before .before .least2 .ensures)))
+
+put-lines-requires-2 : tie.Need-put-lines-requires-2
+put-lines-requires-2 c κs =
+    omega (arith, length-take (c .before .before .before .before .before .before .before .before .before .before .before .before .before .before .before .before .before .before .before .least2 .result) (c .before .before .before .before .before .before .before .before .before .before .before .before .before .before .before .before .before .before .before .before .before .before .before .args .fs .now), c .before .before .before .before .before .before .before .before .before .before .before .before .before .before .before .before .before .before .before .least2 .ensures)
 
 slice-aggregate-put-bytes : tie.Need-slice-aggregate-put-bytes
 slice-aggregate-put-bytes c = search needs
@@ -55,14 +77,15 @@ same-length c = search needs
 
 returns : tie.Need-returns
 returns c =
-    let u = c .before .before .before .before .before .before .before in
-    let t = u .before .before .before .before .before .before in
-    let n = t .before .before .before .before .before in
-    let k = n .before .before .before in
+    let unmet = c .before .before .before .before .before .before .before in
+    let met = unmet .before .before .before .before .before .before in
+    let states = met .before .before .before .before .before .before in
+    let count = states .before .before .before .before .before in
+    let k = count .before .before .before in
     let l = k .before in
     let s = l .before .before .before in
     wrote-as
-    (wrote-then (n .put-count-line .ensures) (wrote-then (t .put-state-lines .ensures) (wrote-then (u .put-families .ensures) (c .before .before .put-bytes .ensures))))
+    (wrote-then (count .put-count-line .ensures) (wrote-then (states .put-state-lines .ensures) (wrote-then (met .put-lines .ensures) (wrote-then (unmet .put-lines2 .ensures) (c .before .before .put-bytes .ensures)))))
     (report-parts (s .args .n) (s .args .fs .now) (s .args .e) (long s) (l .least .ensures) (k .least2 .ensures))
 
 pub put-report-spec : {M : Type 1} → statement M
@@ -76,9 +99,13 @@ put-report-spec =
     slice-aggregate-put-state-lines
     put-state-lines-requires
     array-share-prefix-bits-2
-    slice-aggregate-put-families
-    slice-aggregate-put-families-2
-    put-families-requires
+    slice-aggregate-put-lines
+    slice-aggregate-put-lines-2
+    put-lines-requires
+    array-share-prefix-bits-3
+    slice-aggregate-put-lines-3
+    slice-aggregate-put-lines-4
+    put-lines-requires-2
     slice-aggregate-put-bytes
     put-bytes-requires
     same-length
