@@ -1,7 +1,7 @@
 /* The known answers of 01 that are whole listings: P1 to P4, P9, P10, 128 and 129 rows, and the 64 dichotomies. */
 #include "known.h"
 
-/* What an entry must answer: a text, or, where that is NULL, a number. */
+/* What an entry must answer: a text, or, where that is NULL, a number; the widths have the number of the report. */
 struct known {
     const char *name;
     const char *listing;
@@ -9,27 +9,28 @@ struct known {
     int64_t report_number;
     const char *cover;
     int64_t cover_number;
+    const char *widths;
 };
 
 static const struct known known[] = {
     {"P1", "MC 3 1 1 0\nPT 0 110 001 1\nPT 1 101 100 0\nEN\n",
      "CT 2 5 0 2 17\nSC 0 00\nSC 1 10\nSC 2 01\nBY 0 0\nBY 1 1\nBY 2 0\nBY 3 1\nBY 4 0\nEN\n", 0,
-     ".i 3\n.o 3\n.p 2\n0-0 011\n10- 000\n.e\n", 0},
+     ".i 3\n.o 3\n.p 2\n0-0 011\n10- 000\n.e\n", 0, "WD 1 2 0\nWD 2 0 1\nEN\n"},
     {"P2", "MC 3 1 1 1\nPT 0 110 001 1\nPT 1 101 100 0\nEN\n",
      "CT 1 5 2 1 12\nSC 0 0\nSC 1 1\nSC 2 0\nBY 0 0\nBY 2 0\nBY 4 0\nUN 1\nUN 3\nEN\n", 0,
-     NULL, -900000},
+     NULL, -900000, "WD 1 2 0\nWD 2 0 1\nEN\n"},
     {"P3", "MC 1 1 1 0\nPT 0 1 1 1\nEN\n",
      "CT 0 0 0 0 0\nSC 0 -\nEN\n", 0,
-     ".i 1\n.o 1\n.p 1\n0 1\n.e\n", 0},
+     ".i 1\n.o 1\n.p 1\n0 1\n.e\n", 0, "EN\n"},
     {"P4", "MC 2 1 1 0\nEN\n",
      "CT 1 1 0 1 2\nSC 0 0\nSC 1 1\nBY 0 0\nEN\n", 0,
-     ".i 2\n.o 2\n.p 0\n.e\n", 0},
-    {"P9", "MC 3 1 1 0\nPT 0 110 100 1\nPT - 010 001 1\nEN\n", NULL, -600003, NULL, -600003},
+     ".i 2\n.o 2\n.p 0\n.e\n", 0, "WD 1 0 1\nEN\n"},
+    {"P9", "MC 3 1 1 0\nPT 0 110 100 1\nPT - 010 001 1\nEN\n", NULL, -600003, NULL, -600003, NULL},
     /* P10 speaks of first lines alone: with a bare `EN` behind it the first is accepted, the second refused. Read, but
        with nothing behind it, the first lacks its `EN`. */
-    {"P10, 33 states", "MC 33 1 1 0\nEN\n", NULL, -200001, NULL, -200001},
-    {"P10, 33 states, alone", "MC 33 1 1 0\n", NULL, -200001, NULL, -200001},
-    {"P10, 32 states, alone", "MC 32 1 1 32\n", NULL, -300002, NULL, -300002},
+    {"P10, 33 states", "MC 33 1 1 0\nEN\n", NULL, -200001, NULL, -200001, NULL},
+    {"P10, 33 states, alone", "MC 33 1 1 0\n", NULL, -200001, NULL, -200001, NULL},
+    {"P10, 32 states, alone", "MC 32 1 1 32\n", NULL, -300002, NULL, -300002, NULL},
 };
 
 static uint8_t listing[32768];
@@ -95,8 +96,10 @@ static bool starts(const char *name, const char *which, entry *run, const char *
     return judge(name, which, good, answer);
 }
 
-unsigned known_run(const char *name, entry *report, entry *cover, unsigned *checks)
+unsigned known_run(const struct entries *encoder, unsigned *checks)
 {
+    entry *report = encoder->report;
+    entry *cover = encoder->cover;
     unsigned right = 0;
     unsigned asked = 0;
     for (unsigned at = 0; at < LENGTH_OF(known); at++) {
@@ -105,7 +108,8 @@ unsigned known_run(const char *name, entry *report, entry *cover, unsigned *chec
         put(one->listing);
         right += answers(one->name, "report", report, one->report, one->report_number);
         right += answers(one->name, "cover", cover, one->cover, one->cover_number);
-        asked += 2;
+        right += answers(one->name, "widths", encoder->widths, one->widths, one->report_number);
+        asked += 3;
     }
 
     length = 0;
@@ -122,7 +126,14 @@ unsigned known_run(const char *name, entry *report, entry *cover, unsigned *chec
     right += answers("129 rows", "cover", cover, NULL, -200130);
     asked += 4;
 
+    length = 0;
+    put("MC 2 1 1 0\nDI ++\nEN\n");
+    right += answers("a dichotomy that a cover does without", "widths", encoder->widths, "WD 1 1 1\nWD 2 0 1\nEN\n", 0);
+    asked += 1;
+
     make_dichotomies("MC 32 1 1 0\n");
+    right += starts("64 dichotomies, width 0", "widths", encoder->widths, "WD 1 ");
+    asked += 1;
     right += answers("64 dichotomies, width 0", "report", report, NULL, -700000);
     right += answers("64 dichotomies, width 0", "cover", cover, NULL, -700000);
     make_dichotomies("MC 32 1 1 32\n");
@@ -132,7 +143,7 @@ unsigned known_run(const char *name, entry *report, entry *cover, unsigned *chec
     asked += 4;
 
     if (right != asked)
-        printf("%s: %u of 01's %u known answers are wrong\n", name, asked - right, asked);
+        printf("%s: %u of 01's %u known answers are wrong\n", encoder->name, asked - right, asked);
     *checks += asked;
     return asked - right;
 }

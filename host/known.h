@@ -1,4 +1,4 @@
-/* The known answers of 01 that are whole listings, run through any pair of report and cover entries. */
+/* The known answers of 01 that are whole listings, run through any encoder's entries. */
 #ifndef KNOWN_H
 #define KNOWN_H
 
@@ -6,7 +6,14 @@
 
 typedef int64_t entry(const uint8_t *listing, size_t listing_length, uint8_t *out, size_t out_length);
 
-/* Prints what fails, with this name before it, and answers how much failed; adds what was checked to *checks. */
-unsigned known_run(const char *name, entry *report, entry *cover, unsigned *checks);
+struct entries {
+    const char *name;
+    entry *report;
+    entry *cover;
+    entry *widths;
+};
+
+/* Prints what fails, with the encoder's name before it, and answers how much failed; adds what was checked to *checks. */
+unsigned known_run(const struct entries *encoder, unsigned *checks);
 
 #endif

@@ -1,4 +1,4 @@
-/* Prints the second encoder's report or cover of the listing on standard input, as 01's two programs print theirs. */
+/* Prints the second encoder's report, cover or widths of the listing on standard input, as the programs print theirs. */
 #include "second.h"
 
 static uint8_t listing[SECOND_BYTES + 1];
@@ -18,10 +18,15 @@ static bool put(const uint8_t *bytes, size_t length)
 
 int main(int words, char **word)
 {
-    bool cover = words == 2 && strcmp(word[1], "cover") == 0;
-    bool report = words == 2 && strcmp(word[1], "report") == 0;
-    if (!cover && !report) {
-        printf("usage: say report|cover <LISTING\n");
+    int64_t (*run)(const uint8_t *, size_t, uint8_t *, size_t) = NULL;
+    if (words == 2 && strcmp(word[1], "report") == 0)
+        run = second_report;
+    if (words == 2 && strcmp(word[1], "cover") == 0)
+        run = second_cover;
+    if (words == 2 && strcmp(word[1], "widths") == 0)
+        run = second_widths;
+    if (run == NULL) {
+        printf("usage: say report|cover|widths <LISTING\n");
         return 2;
     }
     size_t length = 0;
@@ -33,8 +38,7 @@ int main(int words, char **word)
             break;
         length += (size_t)got;
     }
-    int64_t answer = cover ? second_cover(listing, length, out, sizeof out)
-                           : second_report(listing, length, out, sizeof out);
+    int64_t answer = run(listing, length, out, sizeof out);
     if (answer < 0) {
         printf("NO %lld %lld\n", (long long)(-answer / 100000), (long long)(-answer % 100000));
         return 0;

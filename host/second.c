@@ -1,4 +1,5 @@
-/* The second encoder's two entries: the report and the cover of a listing, as bytes or as the number of a refusal. */
+/* The second encoder's entries: the report and the cover of a listing, and what each width buys it, as bytes or as the number
+   of a refusal. */
 #include "second.h"
 
 /* A text being written. */
@@ -57,18 +58,38 @@ static int64_t hand_over(const struct text *text, uint8_t *out, size_t out_lengt
     return (int64_t)text->length;
 }
 
-/* "too long; then lines from the top ...; then 6; 7", and no 8 (02, request 06) */
-static struct second_refusal encode(const uint8_t *listing, size_t length, struct second_machine *machine,
-                                    struct second_requirements *requirements, struct second_code *code)
+/* "too long; then lines from the top ...; then 6" */
+static struct second_refusal prepare(const uint8_t *listing, size_t length, struct second_machine *machine,
+                                     struct second_requirements *requirements)
 {
     struct second_refusal refusal = second_read_lines(listing, length, machine);
     if (refusal.number != SECOND_FINE)
         return refusal;
     refusal = second_find_conflict(machine);
+    if (refusal.number == SECOND_FINE)
+        second_draw_up(machine, requirements);
+    return refusal;
+}
+
+/* "then 6; 7", and no 8 (02, request 06) */
+static struct second_refusal encode(const uint8_t *listing, size_t length, struct second_machine *machine,
+                                    struct second_requirements *requirements, struct second_code *code)
+{
+    struct second_refusal refusal = prepare(listing, length, machine, requirements);
     if (refusal.number != SECOND_FINE)
         return refusal;
-    second_draw_up(machine, requirements);
     return second_build_code(requirements, machine->states, machine->width, code);
+}
+
+/* How many of the first so many requirements no bit meets. */
+static unsigned count_unmet(const struct second_requirements *requirements, unsigned number,
+                            const struct second_code *code)
+{
+    unsigned unmet = 0;
+    for (unsigned r = 0; r < number; r++)
+        if (second_met_by(requirements->list[r], code) == SECOND_NO_BIT)
+            unmet++;
+    return unmet;
 }
 
 /* "`CT bits asked unmet passes looks` ...; `SC state code` for each state; `UN number` for each unmet requirement,
@@ -77,13 +98,9 @@ static struct second_refusal encode(const uint8_t *listing, size_t length, struc
 static void write_report(const struct second_machine *machine, const struct second_requirements *requirements,
                          const struct second_code *code, struct text *text)
 {
-    unsigned unmet = 0;
-    for (unsigned r = 0; r < requirements->number; r++)
-        if (second_met_by(requirements->list[r], code) == SECOND_NO_BIT)
-            unmet++;
     put_word_number(text, "CT", code->bits);
     put_word_number(text, "", requirements->number);
-    put_word_number(text, "", unmet);
+    put_word_number(text, "", count_unmet(requirements, requirements->number, code));
     put_word_number(text, "", code->passes);
     put_word_number(text, "", code->looks);
     put_byte(text, '\n');
@@ -182,10 +199,42 @@ int64_t second_cover(const uint8_t *listing, size_t listing_length, uint8_t *out
     struct second_refusal refusal = encode(listing, listing_length, &machine, &requirements, &code);
     if (refusal.number != SECOND_FINE)
         return refused(refusal);
-    for (unsigned r = 0; r < requirements.pairs_groups; r++)
-        if (second_met_by(requirements.list[r], &code) == SECOND_NO_BIT)
-            return refused(unmet);
+    if (count_unmet(&requirements, requirements.pairs_groups, &code) > 0)
+        return refused(unmet);
     text.length = 0;
     write_cover(&machine, &code, &text);
+    return hand_over(&text, out, out_length);
+}
+
+/* 02, request 12: "I raise the width by one and compare." `WD width unmet covered` for each width from 1 to the last that adds
+   a bit, where covered is 1 if every pair and group requirement is met, then `EN`. The machine is encoded once for each
+   width. */
+static void write_widths(const struct second_machine *machine, const struct second_requirements *requirements,
+                         struct text *text)
+{
+    for (unsigned width = 1; width <= SECOND_WIDTH; width++) {
+        struct second_code code;
+        second_build_code(requirements, machine->states, width, &code);
+        if (code.bits < width)
+            break;
+        put_word_number(text, "WD", width);
+        put_word_number(text, "", count_unmet(requirements, requirements->number, &code));
+        put_word_number(text, "", count_unmet(requirements, requirements->pairs_groups, &code) == 0);
+        put_byte(text, '\n');
+    }
+    put_word(text, "EN\n");
+}
+
+/* The listing's own width is not used, and 7 is never given. */
+int64_t second_widths(const uint8_t *listing, size_t listing_length, uint8_t *out, size_t out_length)
+{
+    static struct second_machine machine;
+    static struct second_requirements requirements;
+    static struct text text;
+    struct second_refusal refusal = prepare(listing, listing_length, &machine, &requirements);
+    if (refusal.number != SECOND_FINE)
+        return refused(refusal);
+    text.length = 0;
+    write_widths(&machine, &requirements, &text);
     return hand_over(&text, out, out_length);
 }

@@ -88,9 +88,10 @@ struct second_code {
     uint64_t looks;
 };
 
-/* The two entries, with the answers of 01's C host: the length written, or minus (number * 100000 + line). */
+/* The entries, with the answers of 01's C host: the length written, or minus (number * 100000 + line). */
 int64_t second_report(const uint8_t *listing, size_t listing_length, uint8_t *out, size_t out_length);
 int64_t second_cover(const uint8_t *listing, size_t listing_length, uint8_t *out, size_t out_length);
+int64_t second_widths(const uint8_t *listing, size_t listing_length, uint8_t *out, size_t out_length);
 
 /* The steps, for the tests. */
 

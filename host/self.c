@@ -982,7 +982,8 @@ static void test_seed(void)
 int main(int words, char **word)
 {
     stop_at_once = words == 2 && strcmp(word[1], "stop") == 0;
-    failures += known_run("the second encoder", second_report, second_cover, &checks);
+    struct entries own = {"the second encoder", second_report, second_cover, second_widths};
+    failures += known_run(&own, &checks);
     end_if_failed();
     test_refused_tables();
     test_limits();

@@ -23,6 +23,11 @@ extern int64_t tsurmokan_report(const uint8_t *listing, size_t listing_length, u
 /* The cover of a listing in those codes, in the Berkeley PLA form. As above; refused 9 where a pair or group requirement is unmet. */
 extern int64_t tsurmokan_cover(const uint8_t *listing, size_t listing_length, uint8_t *out, size_t out_length);
 
+/* What each width buys: a line `WD width unmet covered` for each width from 1 to the last that adds a bit, where covered is 1 if a
+ * cover would be written in a code of that width, and then `EN`. As above; the listing's own width is not used, and 7 and 9 are never
+ * given. 419 bytes are always enough. */
+extern int64_t tsurmokan_widths(const uint8_t *listing, size_t listing_length, uint8_t *out, size_t out_length);
+
 /* ---- single moves on one bit ---- */
 
 /* No record lists more requirements. */

@@ -1,5 +1,5 @@
 -- The families of a listing drawn in one go: how many words they take, and those drawn behind others.
-use mathlib.Core.Path.{_≡_, refl, ap}
+use mathlib.Core.Path.{_≡_, refl, ap, _∙_}
 use mathlib.Core.List.{List, [], _∷_, _++_, append-assoc}
 use Prim.Native.Nat.{ℕ, zero, suc, _+_, _*_, _-_, _≤_, min}
 use native.Mathlib.Omega.{arith}
@@ -75,6 +75,12 @@ module _ (t : Listing) (wide : length (t .asked) ≡ most-dichotomies) (few : t 
         dichotomies-length (dichotomiesOf t),
         length-take (t .dichotomies) (t .asked),
       )
+
+  pub front-words : take (length (allFamilies t) - 3 * t .dichotomies) (allFamilies t) ≡ firstFamilies t
+  unfolding allFamilies
+  front-words =
+      let e : length (allFamilies t) - 3 * t .dichotomies ≡ length (firstFamilies t) = omega (arith, all-length) in
+      ap (λ (k : ℕ). take k (allFamilies t)) e ∙ take-append-seam (firstFamilies t) (dichotomyWords (dichotomiesOf t))
 
   pub first-words : {came is : List ℕ} {k : ℕ} → Drew came (allFamilies t) k is → take (k - 3 * t .dichotomies) is ≡ firstFamilies t
   unfolding allFamilies

@@ -53,7 +53,7 @@ module _ (t : Listing) (f : fair t ≡ true) (good : AllGood (t .head .states) (
 -- ---- the pairs and the groups, as a cover asks of them
 
 -- the first of a list's good requirements are good
-good-front : (n : ℕ) (xs ys : List Requirement) → AllGood n (xs ++ ys) → AllGood n xs
+pub good-front : (n : ℕ) (xs ys : List Requirement) → AllGood n (xs ++ ys) → AllGood n xs
 good-front n [] ys g = tt
 good-front n (x ∷ xs) ys g = (g .0, good-front n xs ys (g .1))
 

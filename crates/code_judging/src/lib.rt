@@ -76,7 +76,7 @@ pub fn judge_number(t: rules::Listing, e: Encoding, r: rules::RequirementNumber)
 }
 
 // Whether no bit meets one of the families' requirements.
-fn is_unmet_in(bits: &[u64], fs: &[u64]) -> bool
+pub fn is_unmet_in(bits: &[u64], fs: &[u64]) -> bool
     ensures { λ r. ⌜ r ≡ someUnmet (now (bits .entry)) (requirementsIn (now (fs .entry))) ⌝ }
 {
     let mut w = code_walking::enter(fs, 0);

@@ -57,7 +57,7 @@ module _ (t : Listing) (s : Sound t) where
       few-looks = omega (arith, counters .looks, few-bits);
     }
 
-  fair-encoded : encoded t ≡ encodedAs t (coding t)
+  pub fair-encoded : encoded t ≡ encodedAs t (coding t)
   fair-encoded = sym (encoded-is t true (sound-fair t s))
 
   -- ---- the two answers

@@ -1,3 +1,4 @@
 pub mod Encodings
 pub mod Sayings
+pub mod Widths
 pub mod Small

@@ -28,6 +28,8 @@ use Rattle.code_judging.specs.Judging.{anyUnmet}
 use Rattle.write_report.proofs.Same.{same-report}
 use Rattle.code_judging.proofs.Judgement.{same-judged}
 use Rattle.write_report.proofs.Length.{report-length, unmet-few}
+use Rattle.write_widths.specs.Widths.{encodedWidths}
+use Rattle.write_widths.proofs.Same.{widths-length}
 use Rattle.code_fair.specs.Fair.{fair}
 use Rattle.code_fair.proofs.FairListings.{sound-fair}
 use Rattle.rules.specs.Limits.{most-asked}
@@ -39,31 +41,31 @@ use Rattle.code_drawing.proofs.Requirements.{all-are}
 use Rattle.code_drawing.proofs.Whole.{few-all}
 use Rattle.write_cover.specs.Covers.{Bounded}
 use Rattle.write_cover.proofs.Length.{cover-length}
-use Rattle.host_replies.specs.Saying.{longest, room, saying, Whole, replyOf, replyTo}
-use Rattle.host_replies.specs.declared.Wanted.{Wanted}
+use Rattle.host_replies.specs.Saying.{longest, room, saying, Whole, textOf, textReply}
+use Rattle.host_replies.specs.declared.Text.{Text}
 use Rattle.host_replies.specs.declared.Said.{Said}
 use Rattle.host_replies.proofs.Encodings.{no-code}
 
 -- ---- the reader's refusal, or the listing's own reply
 
-pub read-first : (w : Wanted) (s : List ℕ) → replyTo w s ≡ onReading (reading s) (replyOf w)
-unfolding replyTo replyOf
-read-first Wanted.Report s = refl
-read-first Wanted.Cover s = refl
+pub read-first : (w : Text) (s : List ℕ) → textReply w s ≡ onReading (reading s) (textOf w)
+unfolding textReply textOf
+read-first Text.Report s = refl
+read-first Text.Cover s = refl
 
-module _ (w : Wanted) (s out : List ℕ) (rd : Reading) (e : rd ≡ reading s) where
+module _ (w : Text) (s out : List ℕ) (rd : Reading) (e : rd ≡ reading s) where
   on : Verdict → Reply
-  on v = elim v [ Verdict.Accepted ↦ replyOf w (rd .listing) | Verdict.Refused n k ↦ refuses n k ]
+  on v = elim v [ Verdict.Accepted ↦ textOf w (rd .listing) | Verdict.Refused n k ↦ refuses n k ]
 
-  as-read : (v : Verdict) → rd .verdict ≡ v → saying (on v) out ≡ saying (replyTo w s) out
+  as-read : (v : Verdict) → rd .verdict ≡ v → saying (on v) out ≡ saying (textReply w s) out
   unfolding on
-  as-read v h = ap (λ (x : Reply). saying x out) (sym (read-first w s ∙ ap (λ (x : Reading). onReading x (replyOf w)) (sym e) ∙ ap on h))
+  as-read v h = ap (λ (x : Reply). saying x out) (sym (read-first w s ∙ ap (λ (x : Reading). onReading x (textOf w)) (sym e) ∙ ap on h))
 
-  pub not-read : (r : Refusal) (k : ℕ) → rd .verdict ≡ Verdict.Refused r k → (Said.Refused r k, out) ≡ saying (replyTo w s) out
+  pub not-read : (r : Refusal) (k : ℕ) → rd .verdict ≡ Verdict.Refused r k → (Said.Refused r k, out) ≡ saying (textReply w s) out
   unfolding saying on
   not-read r k v = as-read (Verdict.Refused r k) v
 
-  pub was-read : rd .verdict ≡ Verdict.Accepted → saying (replyOf w (rd .listing)) out ≡ saying (replyTo w s) out
+  pub was-read : rd .verdict ≡ Verdict.Accepted → saying (textOf w (rd .listing)) out ≡ saying (textReply w s) out
   unfolding on
   was-read v = as-read Verdict.Accepted v
 
@@ -72,13 +74,13 @@ read-sound s rd e v = subst (λ (x : Reading). Sound (x .listing)) (sym e) (acce
 
 -- ---- the encoder's refusal
 
-refused-alike : (w : Wanted) (t : Listing) (r : Refusal) → coding t ≡ uncoded r → replyOf w t ≡ refuses r 0
-unfolding replyOf coverOf reportReply
-refused-alike Wanted.Report t r e = ap (reportOf t) e
-refused-alike Wanted.Cover t r e = ap (coverOf t) e
+refused-alike : (w : Text) (t : Listing) (r : Refusal) → coding t ≡ uncoded r → textOf w t ≡ refuses r 0
+unfolding textOf coverOf reportReply
+refused-alike Text.Report t r e = ap (reportOf t) e
+refused-alike Text.Cover t r e = ap (coverOf t) e
 
-pub no-reply : (w : Wanted) (t : Listing) (s : Sound t) (out : List ℕ) (e : Encoding) → e ≡ encoded t → (r : Refusal) (k : ℕ) → e .verdict ≡ Verdict.Refused r k
-    → (Said.Refused r k, out) ≡ saying (replyOf w t) out
+pub no-reply : (w : Text) (t : Listing) (s : Sound t) (out : List ℕ) (e : Encoding) → e ≡ encoded t → (r : Refusal) (k : ℕ) → e .verdict ≡ Verdict.Refused r k
+    → (Said.Refused r k, out) ≡ saying (textOf w t) out
 unfolding saying
 no-reply w t s out e h r k v =
     ap (λ (x : ℕ). (Said.Refused r x, out)) (no-code t s e h r k v .1)
@@ -144,11 +146,11 @@ module _ (t : Listing) (e : Encoding) (w : Whole t e) where
   -- ---- what is said in a code
 
   -- the report is never withheld
-  pub report-said : (k : Wanted) → k ≡ Wanted.Report → says (encodedReport (t .head .states) (allFamilies t) e) ≡ replyOf k t
-  unfolding replyOf reportReply
+  pub report-said : (k : Text) → k ≡ Text.Report → says (encodedReport (t .head .states) (allFamilies t) e) ≡ textOf k t
+  unfolding textOf reportReply
   report-said k h =
       ap says (same-report t is-fair good (w .sound .table) (w .sound .asked) (w .code) e (w .holds))
-      ∙ sym (ap (λ (x : Wanted). replyOf x t) h ∙ ap (reportOf t) (w .is))
+      ∙ sym (ap (λ (x : Text). textOf x t) h ∙ ap (reportOf t) (w .is))
 
   abbrev unmetFirst : ℕ
   unmetFirst = length (unmetFrom 0 (t .head .states) (take (e .width) (e .bits)) (pairsAndGroups t))
@@ -161,7 +163,12 @@ module _ (t : Listing) (e : Encoding) (w : Whole t e) where
       ∙ ap (λ (x : Bool). cond x (refuses Unmet 0) (says (cover t (take (e .width) (e .bits))))) q
 
   -- the cover is, by whether a pair or a group requirement is unmet
-  pub cover-said : (k : Wanted) (b : Bool) → k ≡ Wanted.Cover → b ≡ anyUnmet (firstFamilies t) e → cond b (refuses Unmet 0) (says (cover t (take (e .width) (e .bits)))) ≡ replyOf k t
-  unfolding replyOf
+  pub cover-said : (k : Text) (b : Bool) → k ≡ Text.Cover → b ≡ anyUnmet (firstFamilies t) e → cond b (refuses Unmet 0) (says (cover t (take (e .width) (e .bits)))) ≡ textOf k t
+  unfolding textOf
   cover-said k b h q =
-      sym (ap (λ (x : Wanted). replyOf x t) h ∙ cover-as b (sym (q ∙ same-judged t is-fair good e)))
+      sym (ap (λ (x : Text). textOf x t) h ∙ cover-as b (sym (q ∙ same-judged t is-fair good e)))
+
+  -- ---- what each width buys
+
+  pub widths-few : (first : ℕ) → length (encodedWidths (allFamilies t) first e) ≤ longest
+  widths-few first = omega (arith, widths-length (allFamilies t) first e (w .narrow) few-first)

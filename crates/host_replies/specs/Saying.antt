@@ -8,25 +8,34 @@ use lib.ListN.{length, drop}
 use Rattle.rules.specs.Limits.{most-bits}
 use Rattle.rules.specs.Code.{Code, coded, coding}
 use Rattle.rules.specs.Answers.{Reply, says, refuses, reportOf, coverOf, reportReply, coverReply}
+use Rattle.rules.specs.Widths.{widthsReply}
 use Rattle.rules.specs.declared.Listing.{Listing}
 use Rattle.rules.specs.declared.Encoding.{Encoding}
 use Rattle.rules.specs.declared.Refusal.the-variants.{NoRoom}
 use Rattle.rules.proofs.Sound.{Sound}
 use Rattle.write_report.specs.Report.{Holds}
 use Rattle.host_replies.specs.declared.Wanted.{Wanted}
+use Rattle.host_replies.specs.declared.Text.{Text}
 use Rattle.host_replies.specs.declared.Said.{Said}
 
 -- ---- 01's reply to what is wanted, of any bytes and of a listing
 
 unfoldable pub replyTo : Wanted → List ℕ → Reply
-unfolding reportReply coverReply
+unfolding reportReply coverReply widthsReply
 replyTo Wanted.Report s = reportReply s
 replyTo Wanted.Cover s = coverReply s
+replyTo Wanted.Widths s = widthsReply s
 
-unfoldable pub replyOf : Wanted → Listing → Reply
+-- of what is written in the listing's own code
+unfoldable pub textReply : Text → List ℕ → Reply
+unfolding reportReply coverReply
+textReply Text.Report s = reportReply s
+textReply Text.Cover s = coverReply s
+
+unfoldable pub textOf : Text → Listing → Reply
 unfolding coverOf coding
-replyOf Wanted.Report t = reportOf t (coding t)
-replyOf Wanted.Cover t = coverOf t (coding t)
+textOf Text.Report t = reportOf t (coding t)
+textOf Text.Cover t = coverOf t (coding t)
 
 -- ---- what is said, and the buffer
 

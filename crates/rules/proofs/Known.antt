@@ -16,6 +16,7 @@ use Rattle.rules.specs.Requirements.{groupAsks, metByCode}
 use Rattle.rules.specs.Looks.{looksAt}
 use Rattle.rules.specs.Cover.{face, faceAt}
 use Rattle.rules.specs.Answers.{reportReply, coverReply, printed}
+use Rattle.rules.specs.Widths.{widthsReply}
 use Rattle.rules.specs.declared.Head.{Head}
 use Rattle.rules.specs.declared.Requirement.{Requirement}
 use Rattle.rules.specs.declared.HeadLine.{HeadLine}
@@ -54,6 +55,8 @@ pub data Case : Type 0 where
   -- the report, and the cover, that are printed for a listing
   reports : String → String → Case
   covers : String → String → Case
+  -- what each width buys it
+  buys : String → String → Case
   -- a first line, and the numbers read
   reads : String → Head → Case
   -- some states' codes, a group as in `PT`, and its face; all that the group asks is met
@@ -94,7 +97,9 @@ cases =
     ∷ covers p1 ".i 3\n.o 3\n.p 2\n0-0 011\n10- 000\n.e\n"
     ∷ reports p2 "CT 1 5 2 1 12\nSC 0 0\nSC 1 1\nSC 2 0\nBY 0 0\nBY 2 0\nBY 4 0\nUN 1\nUN 3\nEN\n"
     ∷ covers p2 "NO 9 0\n"
+    ∷ buys p2 "WD 1 2 0\nWD 2 0 1\nEN\n"
     ∷ reports p3 "CT 0 0 0 0 0\nSC 0 -\nEN\n"
+    ∷ buys p3 "EN\n"
     ∷ covers p3 ".i 1\n.o 1\n.p 1\n0 1\n.e\n"
     ∷ reports p4 "CT 1 1 0 1 2\nSC 0 0\nSC 1 1\nBY 0 0\nEN\n"
     ∷ covers p4 ".i 2\n.o 2\n.p 0\n.e\n"
@@ -121,6 +126,7 @@ cases =
 abbrev pub Holds : Case → Type 0
 Holds (reports listing text) = printed (reportReply (bytes listing)) ≡ bytes text
 Holds (covers listing text) = printed (coverReply (bytes listing)) ≡ bytes text
+Holds (buys listing text) = printed (widthsReply (bytes listing)) ≡ bytes text
 Holds (reads line head) = headLine (bytes line) ≡ HeadLine.Read head
 Holds (faces codes group text) =
     (face (length codes) (bitsOf codes) (setOf one (bytes group)) ≡ bytes text)
@@ -139,9 +145,10 @@ sameHead (HeadLine.Read a) b = eqb (a .states) (b .states) && eqb (a .inputs) (b
 sameHead (HeadLine.Refused r) b = false
 
 right : Case → Bool
-unfolding same reportReply coverReply printed headLine sameHead faceAt allMet groupAsks looksOf metByCode bitsIn setOf
+unfolding same reportReply coverReply widthsReply printed headLine sameHead faceAt allMet groupAsks looksOf metByCode bitsIn setOf
 right (reports listing text) = same (printed (reportReply (bytes listing))) (bytes text)
 right (covers listing text) = same (printed (coverReply (bytes listing))) (bytes text)
+right (buys listing text) = same (printed (widthsReply (bytes listing))) (bytes text)
 right (reads line head) = sameHead (headLine (bytes line)) head
 right (faces codes group text) =
     same (face (length codes) (bitsOf codes) (setOf one (bytes group))) (bytes text)
@@ -183,6 +190,7 @@ right-holds : (c : Case) → right c ≡ true → Holds c
 unfolding right
 right-holds (reports listing text) e = same-eq _ _ e
 right-holds (covers listing text) e = same-eq _ _ e
+right-holds (buys listing text) e = same-eq _ _ e
 right-holds (reads line head) e = head-eq _ _ e
 right-holds (faces codes group text) e =
     let a : Bool = same (face (length codes) (bitsOf codes) (setOf one (bytes group))) (bytes text) in

@@ -29,6 +29,8 @@ pub mod CoverLines
 pub mod Written
 pub mod ReportLines
 pub mod Reported
+pub mod Wider
+pub mod WiderReports
 pub mod Good
 pub mod Gains
 pub mod Built

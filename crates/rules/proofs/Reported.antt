@@ -24,6 +24,7 @@ use Rattle.rules.specs.declared.Judgement.the-variants.{By, ByNone}
 use Rattle.rules.proofs.Fields.{none, more, without-append, split-last, split-part}
 use Rattle.rules.proofs.Decimal.{decimal-without, decimal-same}
 use Rattle.rules.proofs.Judged.{FirstMeets, MetByNone, first-or-none, by-judged, judged-by}
+use Rattle.rules.proofs.Asked.{state-listed}
 use Rattle.rules.proofs.Unmet.{unmet-listed}
 use Rattle.rules.proofs.Written.{says-same, says-not}
 use Rattle.rules.proofs.ReportLines.{HasLine, report-has}
@@ -35,8 +36,10 @@ byText r k = metLine (record { 0 = r }) (record { 0 = k })
 abbrev pub unText : ℕ → List ℕ
 unText r = unmetLine (record { 0 = r })
 
--- text tells of the requirements rs of n states by which bit of a code each is met
+-- text tells of n states their codes, and of the requirements rs by which bit of the code each is met
 pub record Tells (n : ℕ) (bits : List ℕ) (rs : List Requirement) (text : List ℕ) : Type 0 where
+  -- `SC s code` is printed for each state
+  pub states : (s : ℕ) → s < n → HasLine text (stateLine bits (record { 0 = s }))
   -- `BY r k` is printed exactly when bit k meets r and no earlier bit does
   pub by : (r k : ℕ) → HasLine text (byText r k) ↔ ((r < length rs) × FirstMeets n bits (getD rs r noRequirement) k)
   -- `UN r` is printed exactly when no bit meets r
@@ -214,7 +217,13 @@ module _ (t : Listing) (c : Code) where
   among-unmets : (l : List ℕ) → List·Memᴰ l unmets → List·Memᴰ l (reportLines t c)
   among-unmets l h = rw sections (List·Memᴰ·tail (Memᴰ·append-right states (Memᴰ·append-right mets (Memᴰ·append-left _ h))))
 
-  -- ---- the two kinds of lines that tell
+  -- ---- the kinds of lines that tell
+
+  tells-state : (s : ℕ) → s < t .head .states → HasLine (report t c) (stateLine (c .bits) (record { 0 = s }))
+  unfolding letter states
+  tells-state s h =
+      report-has t c (stateLine (c .bits) (record { 0 = s })) (λ e. omega (arith, ap letter e, state-letter (c .bits) s)) .1
+      (rw sections (List·Memᴰ·tail (Memᴰ·append-left _ (Memᴰ·map (λ s. stateLine (c .bits) (record { 0 = s })) (state-listed 0 (t .head .states) s (omega arith) (omega arith))))))
 
   by-long : (r k : ℕ) → byText r k ≡ lf ∷ [] → ⊥
   unfolding letter
@@ -267,7 +276,7 @@ module _ (t : Listing) (c : Code) where
           (among-unmets (unText r) (Memᴰ·map (λ r. unmetLine (record { 0 = r })) (unmet-listed (t .head .states) (c .bits) (requirements t) r .1 h)))
 
   report-tells : Tells (t .head .states) (c .bits) (requirements t) (report t c)
-  report-tells = record { by = tells-by; un = tells-un; either = either; not-both = not-both }
+  report-tells = record { states = tells-state; by = tells-by; un = tells-un; either = either; not-both = not-both }
     where
       either : (r : ℕ) → r < length (requirements t) → ((k : ℕ) × HasLine (report t c) (byText r k)) ⊎ HasLine (report t c) (unText r)
       either r h =

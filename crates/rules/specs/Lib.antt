@@ -11,4 +11,5 @@ pub mod Code
 pub mod Report
 pub mod Cover
 pub mod Answers
+pub mod Widths
 pub mod Trial

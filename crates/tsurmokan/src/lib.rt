@@ -4,6 +4,7 @@ mod records;
 
 ghost use mathlib.Core.Path.{_≡_};
 ghost use Rattle.rules.specs.Answers.{reportReply, coverReply, answered};
+ghost use Rattle.rules.specs.Widths.{widthsReply};
 
 // The report.
 #[no_mangle]
@@ -19,4 +20,12 @@ pub extern "C" fn tsurmokan_cover(listing: &[u8], out: &mut [u8]) -> i64
     ensures { λ r. ⌜ (r, now (out .exit)) ≡ answered (coverReply (now (listing .entry))) (now (out .entry)) ⌝ }
 {
     numbers::answer(host_replies::Wanted::Cover, listing, out)
+}
+
+// What each width buys.
+#[no_mangle]
+pub extern "C" fn tsurmokan_widths(listing: &[u8], out: &mut [u8]) -> i64
+    ensures { λ r. ⌜ (r, now (out .exit)) ≡ answered (widthsReply (now (listing .entry))) (now (out .entry)) ⌝ }
+{
+    numbers::answer(host_replies::Wanted::Widths, listing, out)
 }
