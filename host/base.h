@@ -12,6 +12,7 @@ typedef _Bool bool;
 #define false ((bool)0)
 #define true ((bool)1)
 #define NULL ((void *)0)
+#define SIZE_MAX __SIZE_MAX__
 
 #define LENGTH_OF(array) (sizeof(array) / sizeof((array)[0]))
 

@@ -14,7 +14,6 @@
 #define ENCODERS 3
 
 static encoder *const encoders[ENCODERS] = {tsurmokan_report, native_report, second_report};
-static const char *const names[ENCODERS] = {"library", "native", "second"};
 
 static uint8_t out[ENCODERS][SECOND_TEXT];
 
@@ -70,7 +69,7 @@ static uint64_t live_members(const struct native_code *code)
 {
     uint64_t sum = 0;
     for (unsigned at = 0; at < code->live; at++)
-        sum += (unsigned)__builtin_popcount(code->card[code->unmet[at]].all);
+        sum += (unsigned)__builtin_popcountll(code->card[code->unmet[at]].all);
     return sum;
 }
 
@@ -182,37 +181,69 @@ static void print_timing(const struct timing *timing)
     printf(" %u\n", timing->second_rounds);
 }
 
-static void print_row(unsigned at)
+static void print_plan(const struct bench_plan *plan)
 {
     static const char *const groups[] = {"random", "pairs", "halves"};
+    printf(" %s %u %u %u", groups[plan->groups], plan->states, plan->rows, plan->dichotomies);
+}
+
+static void print_row(unsigned at)
+{
     static struct bench_listing listing;
     static struct timing timing;
     const struct bench_plan *plan = &bench_plans[at];
     bench_draw(SEED, at, &listing);
-    for (unsigned which = 0; which < 2; which++)
-        if (!agree(encoders[which], second_report, listing.bytes, listing.length, SECOND_TEXT))
-            fail(names[which], at, listing.bytes, listing.length);
+    if (!agree(tsurmokan_report, second_report, listing.bytes, listing.length, SECOND_TEXT))
+        fail("the library differs from the second encoder", at, listing.bytes, listing.length);
+    if (!agree(native_report, tsurmokan_report, listing.bytes, listing.length, SECOND_TEXT))
+        fail("the native encoder differs from the library", at, listing.bytes, listing.length);
     struct work work = work_of(&listing);
     time_all(&listing, &timing);
-    printf("row %s %u %u %u", groups[plan->groups], plan->states, plan->rows, plan->dichotomies);
+    printf("row");
+    print_plan(plan);
     printf(" %lu %lu %lu", work.asked, work.members, work.demand);
     printf(" %lu %lu %lu", work.bits, work.passes, work.looks);
     print_timing(&timing);
 }
 
-static void print_stack(const char *name, encoder *call, const struct bench_listing *listing)
+/* The first part of a report and of a cover. */
+static int64_t report_part(const uint8_t *listing, size_t listing_length, uint8_t *part, size_t part_length)
 {
-    printf("stack %s %lu\n", name, stack_depth(call, listing->bytes, listing->length, out[0], SECOND_TEXT));
+    return tsurmokan_report_part(listing, listing_length, 0, part, part_length);
 }
 
-/* The stack of each encoder's report on the last plan, the hardest, and of the library's cover. */
-static void print_stacks(void)
+static int64_t cover_part(const uint8_t *listing, size_t listing_length, uint8_t *part, size_t part_length)
+{
+    return tsurmokan_cover_part(listing, listing_length, 0, part, part_length);
+}
+
+/* The stack of a call on the listing of the plans that needs most. */
+static void print_stack(const char *name, encoder *call)
 {
     static struct bench_listing listing;
-    bench_draw(SEED, bench_plans_number - 1, &listing);
-    for (unsigned which = 0; which < ENCODERS; which++)
-        print_stack(names[which], encoders[which], &listing);
-    print_stack("cover", tsurmokan_cover, &listing);
+    size_t most = 0;
+    unsigned hardest = 0;
+    for (unsigned at = 0; at < bench_plans_number; at++) {
+        bench_draw(SEED, at, &listing);
+        size_t depth = stack_depth(call, listing.bytes, listing.length, out[0], SECOND_TEXT);
+        if (depth > most) {
+            most = depth;
+            hardest = at;
+        }
+    }
+    printf("stack %s %lu", name, most);
+    print_plan(&bench_plans[hardest]);
+    printf("\n");
+}
+
+static void print_stacks(void)
+{
+    print_stack("library", tsurmokan_report);
+    print_stack("cover", tsurmokan_cover);
+    print_stack("widths", tsurmokan_widths);
+    print_stack("report_part", report_part);
+    print_stack("cover_part", cover_part);
+    print_stack("native", native_report);
 }
 
 int main(void)

@@ -4,7 +4,7 @@
 
 #define INPUTS 8
 #define OUTPUTS 4
-#define WIDTH 32
+#define WIDTH 64
 
 const struct bench_plan bench_plans[] = {
     {BENCH_RANDOM, 4, 0, 0},     {BENCH_RANDOM, 4, 8, 0},     {BENCH_RANDOM, 4, 8, 8},     {BENCH_RANDOM, 4, 128, 64},
@@ -15,7 +15,12 @@ const struct bench_plan bench_plans[] = {
     {BENCH_RANDOM, 24, 0, 0},    {BENCH_RANDOM, 24, 8, 0},    {BENCH_RANDOM, 24, 32, 0},   {BENCH_RANDOM, 24, 64, 16},
     {BENCH_RANDOM, 24, 128, 0},  {BENCH_RANDOM, 32, 0, 0},    {BENCH_RANDOM, 32, 0, 64},   {BENCH_RANDOM, 32, 8, 0},
     {BENCH_RANDOM, 32, 32, 0},   {BENCH_RANDOM, 32, 64, 16},  {BENCH_RANDOM, 32, 128, 0},  {BENCH_RANDOM, 32, 128, 64},
-    {BENCH_HALVES, 32, 128, 64}, {BENCH_PAIRS, 32, 128, 0},   {BENCH_PAIRS, 32, 128, 64},
+    {BENCH_HALVES, 32, 128, 64}, {BENCH_PAIRS, 32, 128, 0},   {BENCH_PAIRS, 32, 128, 64},  {BENCH_RANDOM, 40, 0, 0},
+    {BENCH_RANDOM, 40, 8, 0},    {BENCH_RANDOM, 40, 32, 0},   {BENCH_RANDOM, 40, 32, 64},  {BENCH_RANDOM, 40, 128, 0},
+    {BENCH_RANDOM, 48, 0, 0},    {BENCH_RANDOM, 48, 8, 0},    {BENCH_RANDOM, 48, 32, 0},   {BENCH_RANDOM, 48, 128, 0},
+    {BENCH_RANDOM, 48, 128, 64}, {BENCH_RANDOM, 64, 0, 0},    {BENCH_RANDOM, 64, 0, 64},   {BENCH_RANDOM, 64, 8, 0},
+    {BENCH_RANDOM, 64, 32, 0},   {BENCH_RANDOM, 64, 128, 0},  {BENCH_RANDOM, 64, 128, 64}, {BENCH_HALVES, 64, 128, 64},
+    {BENCH_PAIRS, 64, 128, 0},   {BENCH_PAIRS, 64, 128, 64},
 };
 const unsigned bench_plans_number = LENGTH_OF(bench_plans);
 

@@ -24,7 +24,7 @@ struct bench_listing {
 extern const struct bench_plan bench_plans[];
 extern const unsigned bench_plans_number;
 
-/* The listing of plan `at` in the run of this seed. Its width is 32, so that no code is refused as too wide. */
+/* The listing of plan `at` in the run of this seed. Its width is 64, so that no code is refused as too wide. */
 void bench_draw(uint64_t seed, unsigned at, struct bench_listing *listing);
 
 #endif

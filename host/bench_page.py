@@ -8,6 +8,9 @@ END = "<!-- end of the figures -->"
 FIELDS = ("groups states rows di asked p demand bits passes looks library native second "
           "by_native by_native_least by_native_greatest by_second by_second_least by_second_greatest second_rounds").split()
 
+STACKS = {"library": "the library's report", "cover": "the library's cover", "widths": "the library's widths",
+          "report_part": "a part of a report", "cover_part": "a part of a cover", "native": "the native report"}
+
 
 def read_results(path):
     """The results by kind of line: rows as dictionaries, the others as they stand."""
@@ -19,8 +22,8 @@ def read_results(path):
             row = {name: value if name == "groups" else float(value) for name, value in zip(FIELDS, values)}
             rows.append(row)
         elif word == "stack":
-            name, size = rest.split()
-            stacks[name] = int(size)
+            name, size, *plan = rest.split()
+            stacks[name] = int(size), plan
         else:
             facts[word] = rest
     return rows, stacks, facts
@@ -80,7 +83,7 @@ def slopes(rows):
     yield "| Cost of | rows with | against p: slope | farthest point | against p over passes: slope | farthest point | against looks: slope |"
     yield "|---|---|---:|---:|---:|---:|---:|"
     for name in ("library", "native", "second"):
-        for least in (4, 8, 16):
+        for least in (4, 8, 16, 40):
             chosen = [row for row in rows if row["states"] >= least]
             cells = []
             for size in ("p", "demand", "looks"):
@@ -97,15 +100,17 @@ def figures(rows, stacks, facts, sizes):
     yield ""
     over = sum(ratio > 1 for ratio in ratios)
     yield f"Library / native: from {min(ratios):.2f} to {max(ratios):.2f}, above 1.0 on {over} of {len(rows)} rows."
-    large = [row["by_native"] for row in rows if row["states"] >= 16]
-    yield f"In the mean of the {len(large)} rows of 16 states or more {sum(large) / len(large):.2f}."
+    for least in (16, 40):
+        large = [row["by_native"] for row in rows if row["states"] >= least]
+        yield f"In the mean of the {len(large)} rows of {least} states or more {sum(large) / len(large):.2f}."
     yield ""
     yield from slopes(rows)
     yield ""
     yield "| Size | bytes |"
     yield "|---|---:|"
-    for name, meant in (("library", "the library's report"), ("cover", "the library's cover"), ("native", "the native report")):
-        yield f"| stack of one call, {meant}, on the last row | {stacks[name]:,} |"
+    for name, meant in STACKS.items():
+        size, (groups, states, lines, di) = stacks[name]
+        yield f"| stack of one call, {meant}, on the row that needs most ({groups}, {states} states, {lines} rows, {di} DI) | {size:,} |"
     for name, size in zip(("code", "constants", "data written to"), sizes):
         yield f"| {name} in the library's archive | {size:,} |"
 

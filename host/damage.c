@@ -167,8 +167,8 @@ static const char *any_word(struct chance *chance, const char *const *word, unsi
 static const char *any_number(struct chance *chance)
 {
     static const char *const number[] = {
-        "0",  "1",   "2",    "16",   "17",    "32",    "33",         "31",    "64",   "65", "99",  "128", "129",
-        "00", "01",  "032",  "0001", "9999",  "10000", "00032",      "65536", "65537", "-1", "+1",  "1x",  "x",
+        "0",  "1",   "2",    "16",   "17",    "32",    "33",         "63",    "64",   "65", "99",  "128", "129",
+        "00", "01",  "064",  "0001", "9999",  "10000", "00064",      "65536", "65537", "-1", "+1",  "1x",  "x",
         "",   "3.0", "0x1f", "1\t",  "\r",    "256",   "4294967297", "1000",  "999",  "-",  "1e1", "000", "0000",
     };
     return any_word(chance, number, LENGTH_OF(number));
@@ -177,7 +177,7 @@ static const char *any_number(struct chance *chance)
 /* A number of 01's form that is out of some range. */
 static const char *far_number(struct chance *chance)
 {
-    static const char *const number[] = {"0", "17", "33", "34", "64", "65", "100", "999", "1000", "9999"};
+    static const char *const number[] = {"0", "17", "33", "65", "65", "66", "96", "100", "128", "999", "1000", "9999"};
     return any_word(chance, number, LENGTH_OF(number));
 }
 
@@ -319,7 +319,7 @@ static void after_end(struct chance *chance, struct generated *listing)
 static void second_head(struct chance *chance, struct generated *listing)
 {
     static const char *const head[] = {
-        "MC 1 1 1 0\n", "MC 3 1 1 0\n", "MC\n", "MC \n", "MC 33 1 1 0\n", "MC 1 1\n", "MC x",
+        "MC 1 1 1 0\n", "MC 3 1 1 0\n", "MC\n", "MC \n", "MC 65 1 1 0\n", "MC 1 1\n", "MC x",
     };
     const char *word = any_word(chance, head, LENGTH_OF(head));
     size_t at = any_line(chance, listing).at;

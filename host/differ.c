@@ -1,5 +1,5 @@
-/* The differential test: the library against the second encoder, on the known answers of 01 and on listings and trial
-   records made by chance; any difference in an answer or in a byte of a buffer ends it. */
+/* The differential test: the library against the second encoder, on the known answers of 01 and on listings, whole and in
+   parts, and trial records made by chance; any difference in an answer or in a byte of a buffer ends it. */
 #include "adapter.h"
 #include "generate.h"
 #include "known.h"
@@ -20,7 +20,7 @@
 /* ---- what was seen ---- */
 
 #define NUMBERS 12
-#define CLASSES 6
+#define CLASSES 8
 
 struct tally {
     const char *name;
@@ -32,15 +32,22 @@ struct tally {
 static struct tally report_tally = {.name = "report"};
 static struct tally cover_tally = {.name = "cover"};
 static struct tally widths_tally = {.name = "widths"};
+static struct tally report_part_tally = {.name = "report part"};
+static struct tally cover_part_tally = {.name = "cover part"};
+static uint64_t parts_at_end; /* calls of parts with nothing left */
+static uint64_t texts_gathered, steps_gathered;
 
-static const struct entries second_entries = {"the second encoder", second_report, second_cover, second_widths};
-static const struct entries library_entries = {"the library", tsurmokan_report, tsurmokan_cover, tsurmokan_widths};
+static const struct entries second_entries = {"the second encoder", second_report,      second_cover,
+                                              second_widths,        second_report_part, second_cover_part};
+static const struct entries library_entries = {"the library",    tsurmokan_report,      tsurmokan_cover,
+                                               tsurmokan_widths, tsurmokan_report_part, tsurmokan_cover_part};
 
 static const struct {
     const char *name;
     unsigned least;
 } size_class[CLASSES] = {
-    {"1 state", 1}, {"2 to 4", 2}, {"5 to 8", 5}, {"9 to 16", 9}, {"17 to 24", 17}, {"25 and more", 25},
+    {"1 state", 1},   {"2 to 4", 2},    {"5 to 8", 5},    {"9 to 16", 9},
+    {"17 to 24", 17}, {"25 to 32", 25}, {"33 to 48", 33}, {"49 and more", 49},
 };
 
 static struct {
@@ -152,30 +159,21 @@ static int64_t lend(int64_t answer, uint8_t *out, size_t length)
     return answer;
 }
 
-/* Runs both, and answers whether they agree in everything. */
-static bool compare_entry(struct chance *chance, struct tally *tally, entry *library, entry *second, int64_t *answered)
+/* The two buffers that are lent, alike, and the listing as it came. */
+static void lay_out(struct chance *chance, size_t length)
 {
-    uint64_t start = now();
-    int64_t answer = second(listing.bytes, listing.length, ample, sizeof ample);
-    uint64_t middle = now();
-    tally->second_time += middle - start;
-
-    size_t length = draw_buffer(chance, answer);
     size_t arena = GUARD + length + GUARD;
     fill(chance, came, arena);
     memcpy(ours, came, arena);
     memcpy(theirs, came, arena);
-    int64_t our_answer = lend(answer, ours + GUARD, length);
     memcpy(listing_came, listing.bytes, listing.length);
-    start = now();
-    int64_t their_answer = library(listing.bytes, listing.length, theirs + GUARD, length);
-    tally->library_time += now() - start;
+}
 
-    tally->seen[number_of(our_answer)]++;
-    kind_seen[listing.kind][number_of(our_answer)]++;
-    *answered = answer;
-
+/* Whether two calls with a buffer of this length, one on `ours` and one on `theirs`, agree in everything. */
+static bool same_call(const struct tally *tally, size_t from, size_t length, int64_t our_answer, int64_t their_answer)
+{
     const char *what = NULL;
+    size_t arena = GUARD + length + GUARD;
     size_t written = our_answer < 0 ? 0 : (size_t)our_answer;
     if (our_answer != their_answer)
         what = "the answers differ";
@@ -192,8 +190,8 @@ static bool compare_entry(struct chance *chance, struct tally *tally, entry *lib
     if (what == NULL)
         return true;
     printf("DIFFERENCE in %s: %s\n", tally->name, what);
-    printf("buffer of %llu bytes; listing of %llu bytes (%s):\n", (unsigned long long)length,
-           (unsigned long long)listing.length, generate_kind_name(listing.kind));
+    printf("from %llu, buffer of %llu bytes; listing of %llu bytes (%s):\n", (unsigned long long)from,
+           (unsigned long long)length, (unsigned long long)listing.length, generate_kind_name(listing.kind));
     print_bytes(listing_came, listing.length);
     print_answer("the library", their_answer, theirs + GUARD, length);
     print_answer("the second encoder", our_answer, ours + GUARD, length);
@@ -207,6 +205,175 @@ static bool compare_entry(struct chance *chance, struct tally *tally, entry *lib
     return false;
 }
 
+/* Runs both, and answers whether they agree in everything. The whole answer of the second encoder is left in `ample`. */
+static bool compare_entry(struct chance *chance, struct tally *tally, entry *library, entry *second, int64_t *answered)
+{
+    uint64_t start = now();
+    int64_t answer = second(listing.bytes, listing.length, ample, sizeof ample);
+    uint64_t middle = now();
+    tally->second_time += middle - start;
+
+    size_t length = draw_buffer(chance, answer);
+    lay_out(chance, length);
+    int64_t our_answer = lend(answer, ours + GUARD, length);
+    start = now();
+    int64_t their_answer = library(listing.bytes, listing.length, theirs + GUARD, length);
+    tally->library_time += now() - start;
+
+    tally->seen[number_of(our_answer)]++;
+    kind_seen[listing.kind][number_of(our_answer)]++;
+    *answered = answer;
+    return same_call(tally, 0, length, our_answer, their_answer);
+}
+
+/* ---- one listing in parts ---- */
+
+/* The byte behind the line that has this one. */
+static size_t line_end(size_t at, size_t length)
+{
+    while (at < length && ample[at] != '\n')
+        at++;
+    return at < length ? at + 1 : length;
+}
+
+/* Where a part begins: at the start, within, where a line does, at the end, past it, and far past it, where a number of 32
+   digits would be within. */
+static size_t draw_from(struct chance *chance, size_t length)
+{
+    size_t within = chance_below(chance, (unsigned)length + 1);
+    switch (chance_below(chance, 12)) {
+    case 0:
+        return 0;
+    case 1:
+        return length;
+    case 2:
+        return length + 1 + chance_below(chance, 100);
+    case 3:
+        return SIZE_MAX - (chance_part(chance, 1, 2) ? 0 : within);
+    case 4:
+        return ((size_t)1 << chance_from(chance, 32, 63)) + within;
+    case 5:
+        return length < 3 ? 0 : length - chance_from(chance, 1, 3);
+    case 6:
+    case 7:
+    case 8:
+        return line_end(within, length);
+    default:
+        return within;
+    }
+}
+
+/* How long a buffer to lend for a part that begins here: none, one byte, a line or one byte to either side of it, two lines
+   and so, all that is left and so, any. */
+static size_t draw_room(struct chance *chance, size_t from, size_t length)
+{
+    if (from >= length)
+        return chance_below(chance, 100);
+    size_t line = line_end(from, length);
+    size_t edges[] = {line, line, line_end(line, length), length};
+    size_t edge = edges[chance_below(chance, LENGTH_OF(edges))] - from;
+    switch (chance_below(chance, 8)) {
+    case 0:
+        return chance_below(chance, 2);
+    case 1:
+    case 2:
+        return edge - 1;
+    case 3:
+    case 4:
+        return edge;
+    case 5:
+        return edge + 1;
+    case 6:
+        return length - from + chance_below(chance, 300);
+    default:
+        return chance_below(chance, (unsigned)(length - from) + 1);
+    }
+}
+
+/* One part: the second encoder's is cut from its whole answer, which stands in `ample`; a refusal is the same. */
+static bool compare_part(struct chance *chance, struct tally *tally, part_entry *library, int64_t answer)
+{
+    size_t text = answer < 0 ? 0 : (size_t)answer;
+    size_t from = draw_from(chance, text);
+    size_t length = draw_room(chance, from, text);
+    lay_out(chance, length);
+    int64_t our_answer = answer < 0 ? answer : second_part(ample, text, from, ours + GUARD, length);
+    uint64_t start = now();
+    int64_t their_answer = library(listing.bytes, listing.length, from, theirs + GUARD, length);
+    tally->library_time += now() - start;
+    tally->seen[number_of(our_answer)]++;
+    parts_at_end += our_answer == 0;
+    return same_call(tally, from, length, our_answer, their_answer);
+}
+
+/* A buffer that has room for the longest line, and so long that a long text takes no more than about so many steps. */
+#define GATHER_STEPS 24
+
+static size_t draw_gather_room(struct chance *chance, size_t longest, size_t length)
+{
+    size_t room = longest + (chance_part(chance, 1, 2) ? 0 : chance_below(chance, 200));
+    return room * GATHER_STEPS < length ? length / GATHER_STEPS + longest : room;
+}
+
+static size_t longest_line(size_t length)
+{
+    size_t longest = 0;
+    for (size_t at = 0; at < length; at = line_end(at, length))
+        if (line_end(at, length) - at > longest)
+            longest = line_end(at, length) - at;
+    return longest;
+}
+
+/* The whole text by parts, as a host that is short of memory gets it: each step gives some bytes until all are there, and
+   they are the text's. */
+static bool gather(struct chance *chance, struct tally *tally, part_entry *library, int64_t answer)
+{
+    size_t text = (size_t)answer;
+    size_t longest = longest_line(text);
+    size_t room = draw_gather_room(chance, longest, text);
+    size_t have = 0;
+    if (longest > TSURMOKAN_LINE || text > TSURMOKAN_ROOM) {
+        printf("DIFFERENCE in %s: a line or a text is longer than tsurmokan.h says\n", tally->name);
+        return false;
+    }
+    lay_out(chance, room);
+    texts_gathered++;
+    for (;;) {
+        int64_t more = library(listing.bytes, listing.length, have, theirs + GUARD, room);
+        steps_gathered++;
+        if (more == 0 && have == text)
+            return true;
+        bool good = more > 0 && (size_t)more <= room && (size_t)more <= text - have;
+        if (!good || memcmp(theirs + GUARD, ample + have, (size_t)more) != 0) {
+            printf("DIFFERENCE in %s: gathered by a buffer of %llu bytes, at byte %llu of %llu the step answers %lld\n",
+                   tally->name, (unsigned long long)room, (unsigned long long)have, (unsigned long long)text,
+                   (long long)more);
+            print_bytes(listing.bytes, listing.length);
+            return false;
+        }
+        have += (size_t)more;
+    }
+}
+
+/* The parts of a text whose whole answer is known and stands in `ample`; one answer in eight is gathered as well. */
+static bool compare_parts(struct chance *chance, struct tally *tally, part_entry *library, int64_t answer)
+{
+    if (!compare_part(chance, tally, library, answer))
+        return false;
+    if (answer >= 0 && !compare_part(chance, tally, library, answer))
+        return false;
+    return answer < 0 || !chance_part(chance, 1, 8) || gather(chance, tally, library, answer);
+}
+
+/* ---- one listing, all entries ---- */
+
+/* The second encoder encodes once for each width, which is dear above 32 states: of those one in 16 is compared, and of the long
+   ones, which can take it ten seconds, one in 200. */
+static bool has_widths(struct chance *chance)
+{
+    return listing.states <= 32 || chance_part(chance, 1, listing.length < 4096 ? 16 : 200);
+}
+
 /* Every second listing is damaged. */
 static bool compare_listing(uint64_t seed, uint64_t number)
 {
@@ -216,8 +383,11 @@ static bool compare_listing(uint64_t seed, uint64_t number)
     int64_t widths = 0;
     generate_listing(seed, number, number % 2 == 1, &listing);
     bool same = compare_entry(&chance, &report_tally, tsurmokan_report, second_report, &report) &&
+                compare_parts(&chance, &report_part_tally, tsurmokan_report_part, report) &&
                 compare_entry(&chance, &cover_tally, tsurmokan_cover, second_cover, &cover) &&
-                compare_entry(&chance, &widths_tally, tsurmokan_widths, second_widths, &widths);
+                compare_parts(&chance, &cover_part_tally, tsurmokan_cover_part, cover) &&
+                (!has_widths(&chance) ||
+                 compare_entry(&chance, &widths_tally, tsurmokan_widths, second_widths, &widths));
     if (!same) {
         printf("seed %llu, listing %llu\n", (unsigned long long)seed, (unsigned long long)number);
         return false;
@@ -392,7 +562,7 @@ static bool compare_trial(uint64_t seed, uint64_t number)
 
 static void print_tally(const struct tally *tally)
 {
-    printf("%-6s: %llu answered; refused", tally->name, (unsigned long long)tally->seen[0]);
+    printf("%-11s: %llu answered; refused", tally->name, (unsigned long long)tally->seen[0]);
     for (unsigned number = 1; number < NUMBERS; number++)
         printf(" %u:%llu", number, (unsigned long long)tally->seen[number]);
     printf("; time: second encoder %llu ms, library %llu ms\n", (unsigned long long)(tally->second_time / 1000000),
@@ -497,6 +667,10 @@ int main(int words, char **word)
     print_tally(&report_tally);
     print_tally(&cover_tally);
     print_tally(&widths_tally);
+    print_tally(&report_part_tally);
+    print_tally(&cover_part_tally);
+    printf("parts: %llu calls with nothing left; %llu texts gathered in %llu steps\n", (unsigned long long)parts_at_end,
+           (unsigned long long)texts_gathered, (unsigned long long)steps_gathered);
     printf("%llu listings of seed %llu, half of them damaged, all alike; "
            "%llu have a report and %llu a cover, given room; %llu ms\n",
            (unsigned long long)count, (unsigned long long)seed, (unsigned long long)reports,
@@ -505,6 +679,9 @@ int main(int words, char **word)
         bool enough = seen_enough(&report_tally, "89");
         enough = seen_enough(&cover_tally, "8") && enough;
         enough = seen_enough(&widths_tally, "789") && enough;
+        enough = seen_enough(&report_part_tally, "89") && enough;
+        enough = seen_enough(&cover_part_tally, "8") && enough;
+        enough = parts_at_end >= SEEN_LEAST && texts_gathered >= SEEN_LEAST && enough;
         enough = trial_refused_starts >= SEEN_LEAST && trial_refused_moves >= SEEN_LEAST && enough;
         if (!enough)
             return 1;

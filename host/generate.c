@@ -1,8 +1,8 @@
 /* Good listings by chance: machines of every size, drawn row by row, that mostly avoid the conflict of refusal 6. */
 #include "generate.h"
 
-/* The limits of 01, written down again here so that the generator depends on no encoder. Req 09 makes STATES 64. */
-#define STATES 32
+/* The limits of 01 and of 02's request 09, written down again here so that the generator depends on no encoder. */
+#define STATES 64
 #define WIDTH STATES
 #define INPUTS 16
 #define OUTPUTS 32
@@ -11,22 +11,24 @@
 
 #define NO_STATE (-1)
 
-/* Each family's name and how often it is drawn, out of 1,000. The big ones are seldom, so that a run stays fast. */
+/* Each family's name and how often it is drawn, out of 1,000. Those that take an encoder long are seldom, so that a run stays
+   fast; above 32 states, where most controllers are, is a third of all. */
 static const struct {
     const char *name;
     unsigned weight;
 } families[GENERATE_FAMILIES] = {
-    [GENERATE_TINY] = {"tiny", 200},
-    [GENERATE_SMALL] = {"small", 335},
-    [GENERATE_MIDDLE] = {"middle", 110},
+    [GENERATE_TINY] = {"tiny", 150},
+    [GENERATE_SMALL] = {"small", 175},
+    [GENERATE_MIDDLE] = {"middle", 75},
     [GENERATE_LARGE] = {"large", 30},
-    [GENERATE_HUGE] = {"huge", 3},
-    [GENERATE_MANY_ROWS] = {"many rows", 50},
-    [GENERATE_MANY_DICHOTOMIES] = {"many dichotomies", 40},
+    [GENERATE_WIDE] = {"wide", 305},
+    [GENERATE_HUGE] = {"huge", 2},
+    [GENERATE_MANY_ROWS] = {"many rows", 45},
+    [GENERATE_MANY_DICHOTOMIES] = {"many dichotomies", 38},
     [GENERATE_CROWD] = {"crowd", 20},
-    [GENERATE_EDGE] = {"edge", 97},
-    [GENERATE_CLASH] = {"clash", 55},
-    [GENERATE_NARROW] = {"narrow", 60},
+    [GENERATE_EDGE] = {"edge", 70},
+    [GENERATE_CLASH] = {"clash", 50},
+    [GENERATE_NARROW] = {"narrow", 40},
 };
 
 struct row {
@@ -87,7 +89,7 @@ static uint64_t any_set(struct chance *chance, const struct draft *draft)
 /* The numbers of the head line, and how many rows and dichotomies are to be drawn. */
 static void draw_sizes(struct chance *chance, enum generate_family family, struct draft *draft)
 {
-    static const unsigned edge_states[] = {1, 2, 3, STATES - 1, STATES};
+    static const unsigned edge_states[] = {1, 2, 3, 31, 32, 33, STATES - 1, STATES, STATES};
     static const unsigned edge_inputs[] = {1, 2, 15, 16};
     static const unsigned edge_outputs[] = {1, 2, 31, 32};
     static const unsigned edge_widths[] = {0, 0, 1, 2, WIDTH - 1, WIDTH};
@@ -121,9 +123,16 @@ static void draw_sizes(struct chance *chance, enum generate_family family, struc
         draft->dichotomies = chance_below(chance, 6);
         break;
     case GENERATE_LARGE:
-        draft->states = chance_from(chance, 17, STATES);
+        draft->states = chance_from(chance, 17, 32);
         draft->rows = chance_below(chance, 13);
         draft->dichotomies = chance_below(chance, 6);
+        if (chance_part(chance, 1, 2))
+            draft->width = chance_from(chance, 1, 8);
+        break;
+    case GENERATE_WIDE:
+        draft->states = chance_from(chance, 33, STATES);
+        draft->rows = chance_below(chance, chance_part(chance, 1, 8) ? 13 : 4);
+        draft->dichotomies = chance_below(chance, 4);
         if (chance_part(chance, 1, 2))
             draft->width = chance_from(chance, 1, 8);
         break;
@@ -133,7 +142,7 @@ static void draw_sizes(struct chance *chance, enum generate_family family, struc
         draft->dichotomies = chance_from(chance, 0, DICHOTOMIES);
         if (chance_part(chance, 9, 10))
             draft->width = chance_from(chance, 1, 3);
-        if (chance_part(chance, 1, 4)) { /* 4,400 requirements, and the longest report */
+        if (chance_part(chance, 1, 4)) { /* 10,016 requirements, and the longest report */
             draft->groups = PAIR_GROUPS;
             draft->states = STATES;
             draft->rows = ROWS;
@@ -155,12 +164,12 @@ static void draw_sizes(struct chance *chance, enum generate_family family, struc
         break;
     case GENERATE_CROWD:
         /* Every bit meets one of the dichotomies at most: up to about WIDTH of them are met, more are not. */
-        draft->states = chance_from(chance, 7, 9);
+        draft->states = chance_from(chance, 7, 14);
         if (chance_part(chance, 1, 40))
-            draft->states = chance_from(chance, 10, STATES);
+            draft->states = chance_from(chance, 15, STATES);
         draft->rows = chance_below(chance, 2);
-        draft->dichotomies = chance_from(chance, 28, 36); /* about WIDTH */
-        if (chance_part(chance, 1, 4))
+        draft->dichotomies = chance_from(chance, WIDTH - 6, DICHOTOMIES); /* about WIDTH, with the bits for the pairs */
+        if (chance_part(chance, 1, 2))
             draft->dichotomies = DICHOTOMIES;
         draft->width = chance_part(chance, 1, 4) ? chance_from(chance, WIDTH - 2, WIDTH) : 0;
         if (chance_part(chance, 1, 8)) { /* the longest cover */
@@ -173,7 +182,7 @@ static void draw_sizes(struct chance *chance, enum generate_family family, struc
         break;
     case GENERATE_EDGE:
         draft->states = one_of(chance, edge_states, 3);
-        if (chance_part(chance, 1, 12))
+        if (chance_part(chance, 1, 3))
             draft->states = one_of(chance, edge_states, LENGTH_OF(edge_states));
         draft->inputs = one_of(chance, edge_inputs, LENGTH_OF(edge_inputs));
         draft->outputs = one_of(chance, edge_outputs, LENGTH_OF(edge_outputs));
@@ -182,12 +191,12 @@ static void draw_sizes(struct chance *chance, enum generate_family family, struc
         draft->dichotomies = chance_below(chance, 3);
         break;
     case GENERATE_CLASH:
-        draft->states = chance_from(chance, 2, 8);
+        draft->states = chance_part(chance, 1, 4) ? chance_from(chance, 9, STATES) : chance_from(chance, 2, 8);
         draft->rows = chance_from(chance, 2, 16);
         draft->dichotomies = chance_below(chance, 3);
         break;
     case GENERATE_NARROW:
-        draft->states = chance_from(chance, 3, 14);
+        draft->states = chance_from(chance, 3, chance_part(chance, 1, 8) ? STATES : 14);
         draft->rows = chance_below(chance, 9);
         draft->dichotomies = chance_below(chance, 5);
         draft->width = chance_from(chance, 1, 4);

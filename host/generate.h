@@ -17,7 +17,7 @@ struct generated {
 };
 
 /* The families of good listings come first, then the kinds of damage. */
-#define GENERATE_FAMILIES 11
+#define GENERATE_FAMILIES 12
 #define GENERATE_DAMAGES 39
 #define GENERATE_KINDS (GENERATE_FAMILIES + GENERATE_DAMAGES)
 
@@ -33,6 +33,7 @@ enum generate_family {
     GENERATE_SMALL,
     GENERATE_MIDDLE,
     GENERATE_LARGE,
+    GENERATE_WIDE,
     GENERATE_HUGE,
     GENERATE_MANY_ROWS,
     GENERATE_MANY_DICHOTOMIES,

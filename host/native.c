@@ -1,8 +1,8 @@
 /* The native encoder's entry: reads, encodes, and writes the report. */
 #include "native.h"
 
-/* A CT line of five numbers, 32 SC lines, a BY line of at most 11 bytes or a shorter UN line for each requirement, and EN. */
-#define NATIVE_TEXT (110 + 32 * 39 + NATIVE_REQUIREMENTS * 11 + 3)
+/* A CT line of five numbers, 64 SC lines, a BY line of at most 12 bytes or a shorter UN line for each requirement, and EN. */
+#define NATIVE_TEXT (60 + NATIVE_STATES * 71 + NATIVE_REQUIREMENTS * 12 + 3)
 
 static uint8_t *put_number(uint8_t *to, uint64_t number)
 {

@@ -7,19 +7,25 @@
 typedef __UINT16_TYPE__ uint16_t;
 typedef __INT32_TYPE__ int32_t;
 
-/* 01's limits. A set of states fits into 32 digits. */
-#define NATIVE_STATES 32
+/* 01's limits, with the 64 states of 02's request 09. A set of states fits into 64 digits. */
+#define NATIVE_STATES 64
 #define NATIVE_INPUTS 16
 #define NATIVE_OUTPUTS 32
 #define NATIVE_ROWS 128
 #define NATIVE_DICHOTOMIES 64
 #define NATIVE_BYTES 65536
-#define NATIVE_REQUIREMENTS 4400
+#define NATIVE_REQUIREMENTS 10016
 
-/* The most members of all requirements: 496 pairs, 128 groups of 16 states with 16 outside, 64 dichotomies of 32 states. */
-#define NATIVE_MEMBERS (496 * 2 + 128 * 16 * 17 + 64 * 32)
+/* The most members of all requirements: 2,016 pairs, 128 groups of 32 states with 32 outside, 64 dichotomies of 64 states. */
+#define NATIVE_MEMBERS (2016 * 2 + 128 * 32 * 33 + 64 * 64)
 
-/* The rows by columns, so that the scan for a conflict runs along them. */
+/* All of so many states, at least one. */
+static inline uint64_t native_all_states(uint32_t states)
+{
+    return ~(uint64_t)0 >> (64 - states);
+}
+
+/* The rows by columns, so that the scan for a conflict runs along them; what it needs is 32 digits wide, four rows to a step. */
 struct native_machine {
     uint32_t states;
     uint32_t inputs;
@@ -27,29 +33,30 @@ struct native_machine {
     uint32_t width;
     uint32_t rows;
     uint32_t dichotomies;
-    uint32_t group[NATIVE_ROWS];
-    uint32_t bound[NATIVE_ROWS];  /* the group again, or nobody where the row names no next state */
-    uint32_t next[NATIVE_ROWS];   /* as a set */
+    uint64_t group[NATIVE_ROWS];
+    uint32_t low[NATIVE_ROWS];    /* the group's first 32 states again, or nobody where the row names no next state */
+    uint32_t high[NATIVE_ROWS];   /* and the others */
+    uint32_t next[NATIVE_ROWS];   /* of a row that names one */
     uint32_t asks[NATIVE_ROWS];   /* the places that ask 0, and those that ask 1 sixteen digits higher */
     uint32_t refuse[NATIVE_ROWS]; /* the same with the halves changed over */
     uint32_t line[NATIVE_ROWS];
-    uint32_t first[NATIVE_DICHOTOMIES];
-    uint32_t second[NATIVE_DICHOTOMIES];
+    uint64_t first[NATIVE_DICHOTOMIES];
+    uint64_t second[NATIVE_DICHOTOMIES];
 };
 
 /* A requirement: its members (none once it is met), its second block, and the members that must change for first 0, second
    1. A card's place is the requirement's number. */
 struct native_card {
-    uint32_t all;
-    uint32_t wrong;
-    uint32_t second;
+    uint64_t all;
+    uint64_t wrong;
+    uint64_t second;
 };
 
 struct native_code {
     uint32_t states;
     uint32_t asked;
     uint32_t bits;
-    uint32_t bit[NATIVE_STATES];
+    uint64_t bit[NATIVE_STATES];
     uint64_t passes;
     uint64_t looks;
     uint32_t live; /* how many cards are still unmet, and which, ascending */

@@ -26,19 +26,19 @@ static bool take_number(struct walk *walk, uint8_t behind, uint32_t *number)
 }
 
 /* `length` of `0 1` as a set; false if another character is there. The caller has seen that so many bytes are left. */
-static bool take_set(struct walk *walk, uint32_t length, uint32_t *set)
+static bool take_set(struct walk *walk, uint32_t length, uint64_t *set)
 {
-    uint32_t sum = 0;
+    uint64_t sum = 0;
     uint32_t odd = 0;
     uint32_t at = 0;
     for (; at + 8 <= length; at += 8) {
         uint64_t eight;
         memcpy(&eight, walk->at + at, 8);
         odd |= (eight & 0xFEFEFEFEFEFEFEFEu) != 0x3030303030303030u;
-        sum |= (uint32_t)(((eight & 0x0101010101010101u) * 0x0102040810204080u) >> 56) << at;
+        sum |= (((eight & 0x0101010101010101u) * 0x0102040810204080u) >> 56) << at;
     }
     for (; at < length; at++) {
-        uint32_t one = (uint32_t)walk->at[at] - '0';
+        uint64_t one = (uint64_t)walk->at[at] - '0';
         odd |= one > 1;
         sum |= (one & 1) << at;
     }
@@ -48,15 +48,15 @@ static bool take_set(struct walk *walk, uint32_t length, uint32_t *set)
 }
 
 /* `length` of `zero one neither`: the places with each of the first two. */
-static bool take_places(struct walk *walk, uint32_t length, const char *kinds, uint32_t *zeros, uint32_t *ones)
+static bool take_places(struct walk *walk, uint32_t length, const char *kinds, uint64_t *zeros, uint64_t *ones)
 {
-    uint32_t zero = 0;
-    uint32_t one = 0;
+    uint64_t zero = 0;
+    uint64_t one = 0;
     uint32_t odd = 0;
     for (uint32_t at = 0; at < length; at++) {
         uint8_t byte = walk->at[at];
-        zero |= (uint32_t)(byte == (uint8_t)kinds[0]) << at;
-        one |= (uint32_t)(byte == (uint8_t)kinds[1]) << at;
+        zero |= (uint64_t)(byte == (uint8_t)kinds[0]) << at;
+        one |= (uint64_t)(byte == (uint8_t)kinds[1]) << at;
         odd |= byte != (uint8_t)kinds[0] && byte != (uint8_t)kinds[1] && byte != (uint8_t)kinds[2];
     }
     walk->at += length;
@@ -85,7 +85,7 @@ static int64_t read_head(struct walk *walk, struct native_machine *machine)
 
 static int64_t read_row(struct walk *walk, uint32_t line, struct native_machine *machine)
 {
-    uint32_t group, next, zeros, ones, low, high;
+    uint64_t group, next, zeros, ones, low, high;
     uint32_t row = machine->rows;
     if (walk->end - walk->at < (long)(machine->inputs + 2 * machine->states + machine->outputs + 5))
         return refusal(1, line);
@@ -100,10 +100,11 @@ static int64_t read_row(struct walk *walk, uint32_t line, struct native_machine 
     if (next & (next - 1))
         return refusal(5, line);
     machine->group[row] = group;
-    machine->bound[row] = next ? group : 0;
-    machine->next[row] = next;
-    machine->asks[row] = zeros | ones << 16;
-    machine->refuse[row] = ones | zeros << 16;
+    machine->low[row] = next ? (uint32_t)group : 0;
+    machine->high[row] = next ? (uint32_t)(group >> 32) : 0;
+    machine->next[row] = next ? (uint32_t)__builtin_ctzll(next) : 0;
+    machine->asks[row] = (uint32_t)(zeros | ones << 16);
+    machine->refuse[row] = (uint32_t)(ones | zeros << 16);
     machine->line[row] = line;
     machine->rows = row + 1;
     return 0;
@@ -111,7 +112,7 @@ static int64_t read_row(struct walk *walk, uint32_t line, struct native_machine 
 
 static int64_t read_dichotomy(struct walk *walk, uint32_t line, struct native_machine *machine)
 {
-    uint32_t first, second;
+    uint64_t first, second;
     if (walk->end - walk->at < (long)(machine->states + 2))
         return refusal(1, line);
     if (!take_byte(walk, ' ') || !take_places(walk, machine->states, "+-.", &first, &second) || !take_byte(walk, '\n'))
@@ -141,15 +142,16 @@ static uint32_t mark_at(const struct walk *walk)
 static int64_t find_conflict(const struct native_machine *machine)
 {
     for (uint32_t earlier = 0; earlier < machine->rows; earlier++) {
-        uint32_t bound = machine->bound[earlier], next = machine->next[earlier], asks = machine->asks[earlier];
+        uint32_t low = machine->low[earlier], high = machine->high[earlier];
+        uint32_t next = machine->next[earlier], asks = machine->asks[earlier];
         uint32_t found = 0;
         for (uint32_t later = earlier + 1; later < machine->rows; later++)
-            found |= ((bound & machine->bound[later]) != 0) & (next != machine->next[later]) &
-                     ((asks & machine->refuse[later]) == 0);
+            found |= (((low & machine->low[later]) | (high & machine->high[later])) != 0) &
+                     (next != machine->next[later]) & ((asks & machine->refuse[later]) == 0);
         if (!found)
             continue;
         for (uint32_t later = earlier + 1;; later++)
-            if ((bound & machine->bound[later]) != 0 && next != machine->next[later] &&
+            if (((low & machine->low[later]) | (high & machine->high[later])) != 0 && next != machine->next[later] &&
                 (asks & machine->refuse[later]) == 0)
                 return refusal(6, machine->line[later]);
     }

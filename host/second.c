@@ -1,5 +1,5 @@
-/* The second encoder's entries: the report and the cover of a listing, and what each width buys it, as bytes or as the number
-   of a refusal. */
+/* The second encoder's entries: the report and the cover of a listing, whole or in parts, and what each width buys it, as bytes
+   or as the number of a refusal. */
 #include "second.h"
 
 /* A text being written. */
@@ -47,15 +47,33 @@ static int64_t refused(struct second_refusal refusal)
     return -((int64_t)refusal.number * 100000 + (int64_t)refusal.line);
 }
 
+static const struct second_refusal no_room = {SECOND_NO_ROOM, 0};
+
 /* "no room: the lent output is shorter than the answer"; "A refusal writes no byte of the output; an answer leaves the
    bytes behind its own length as they came." */
 static int64_t hand_over(const struct text *text, uint8_t *out, size_t out_length)
 {
-    struct second_refusal no_room = {SECOND_NO_ROOM, 0};
     if (out_length < text->length)
         return refused(no_room);
     memcpy(out, text->bytes, text->length);
     return (int64_t)text->length;
+}
+
+/* 02, request 09: "long reports are printed line by line". From byte `from` on, as many whole lines as fit; where `from`
+   lies within a line, the first one is the rest of that line. Each line ends in LF (reading 19), so the last LF within the
+   room is the last line that fits. */
+int64_t second_part(const uint8_t *text, size_t text_length, size_t from, uint8_t *out, size_t out_length)
+{
+    size_t fits = 0;
+    if (from >= text_length)
+        return 0;
+    for (size_t at = from; at < text_length && at - from < out_length; at++)
+        if (text[at] == '\n')
+            fits = at - from + 1;
+    if (fits == 0)
+        return refused(no_room);
+    memcpy(out, text + from, fits);
+    return (int64_t)fits;
 }
 
 /* "too long; then lines from the top ...; then 6" */
@@ -174,36 +192,62 @@ static void write_cover(const struct second_machine *machine, const struct secon
     put_word(text, ".e\n");
 }
 
-int64_t second_report(const uint8_t *listing, size_t listing_length, uint8_t *out, size_t out_length)
+static struct second_refusal make_report(const uint8_t *listing, size_t listing_length, struct text *text)
 {
     static struct second_machine machine;
     static struct second_requirements requirements;
-    static struct text text;
     struct second_code code;
     struct second_refusal refusal = encode(listing, listing_length, &machine, &requirements, &code);
     if (refusal.number != SECOND_FINE)
-        return refused(refusal);
-    text.length = 0;
-    write_report(&machine, &requirements, &code, &text);
-    return hand_over(&text, out, out_length);
+        return refusal;
+    text->length = 0;
+    write_report(&machine, &requirements, &code, text);
+    return refusal;
 }
 
 /* 9 is "cover asked for, and a pair or group requirement is unmet": a dichotomy may stay unmet. */
-int64_t second_cover(const uint8_t *listing, size_t listing_length, uint8_t *out, size_t out_length)
+static struct second_refusal make_cover(const uint8_t *listing, size_t listing_length, struct text *text)
 {
     static struct second_machine machine;
     static struct second_requirements requirements;
-    static struct text text;
     struct second_refusal unmet = {SECOND_UNMET, 0};
     struct second_code code;
     struct second_refusal refusal = encode(listing, listing_length, &machine, &requirements, &code);
     if (refusal.number != SECOND_FINE)
-        return refused(refusal);
+        return refusal;
     if (count_unmet(&requirements, requirements.pairs_groups, &code) > 0)
-        return refused(unmet);
-    text.length = 0;
-    write_cover(&machine, &code, &text);
-    return hand_over(&text, out, out_length);
+        return unmet;
+    text->length = 0;
+    write_cover(&machine, &code, text);
+    return refusal;
+}
+
+int64_t second_report(const uint8_t *listing, size_t listing_length, uint8_t *out, size_t out_length)
+{
+    static struct text text;
+    struct second_refusal refusal = make_report(listing, listing_length, &text);
+    return refusal.number != SECOND_FINE ? refused(refusal) : hand_over(&text, out, out_length);
+}
+
+int64_t second_cover(const uint8_t *listing, size_t listing_length, uint8_t *out, size_t out_length)
+{
+    static struct text text;
+    struct second_refusal refusal = make_cover(listing, listing_length, &text);
+    return refusal.number != SECOND_FINE ? refused(refusal) : hand_over(&text, out, out_length);
+}
+
+int64_t second_report_part(const uint8_t *listing, size_t listing_length, size_t from, uint8_t *out, size_t out_length)
+{
+    static struct text text;
+    struct second_refusal refusal = make_report(listing, listing_length, &text);
+    return refusal.number != SECOND_FINE ? refused(refusal) : second_part(text.bytes, text.length, from, out, out_length);
+}
+
+int64_t second_cover_part(const uint8_t *listing, size_t listing_length, size_t from, uint8_t *out, size_t out_length)
+{
+    static struct text text;
+    struct second_refusal refusal = make_cover(listing, listing_length, &text);
+    return refusal.number != SECOND_FINE ? refused(refusal) : second_part(text.bytes, text.length, from, out, out_length);
 }
 
 /* 02, request 12: "I raise the width by one and compare." `WD width unmet covered` for each width from 1 to the last that adds

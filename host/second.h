@@ -4,10 +4,8 @@
 
 #include "base.h"
 
-/* The limits of 01, "The listing". Req 09 makes the first one 64; everything else follows. */
-#ifndef SECOND_STATES
-#define SECOND_STATES 32
-#endif
+/* The limits of 01, "The listing"; 02, request 09: "Raise states ... and width from 32 to 64." */
+#define SECOND_STATES 64
 #define SECOND_WIDTH SECOND_STATES
 #define SECOND_INPUTS 16
 #define SECOND_OUTPUTS 32
@@ -15,16 +13,16 @@
 #define SECOND_DICHOTOMIES 64
 #define SECOND_BYTES 65536
 
-/* 01, "Requirements": at most 496 + 3,840 + 64 = 4,400. */
+/* 02, request 09: "Requirements may reach 2,016 + 7,936 + 64 = 10,016." */
 #define SECOND_REQUIREMENTS \
     (SECOND_STATES * (SECOND_STATES - 1) / 2 + SECOND_ROWS * (SECOND_STATES - 2) + SECOND_DICHOTOMIES)
 
 /* 01, "Looks": the trial record takes a list of at most 256. */
 #define SECOND_TRIAL_REQUIREMENTS 256
 
-/* No text that the encoder prints is longer: a BY line has at most 12 bytes, an UN line 9, an SC line 72, a cover row
-   192. */
-#define SECOND_TEXT (SECOND_REQUIREMENTS * 12 + SECOND_STATES * 72 + SECOND_ROWS * 192 + 256)
+/* No text that the encoder prints is longer: a BY line has at most 12 bytes, an UN line 9, an SC line 71, a cover row
+   178, and the other lines together far fewer than 256. */
+#define SECOND_TEXT (SECOND_REQUIREMENTS * 12 + SECOND_STATES * 71 + SECOND_ROWS * 178 + 256)
 
 /* 01, "Refusal numbers". SECOND_FINE stands for no refusal; 8 is unused (02, request 06). */
 enum {
@@ -93,6 +91,11 @@ int64_t second_report(const uint8_t *listing, size_t listing_length, uint8_t *ou
 int64_t second_cover(const uint8_t *listing, size_t listing_length, uint8_t *out, size_t out_length);
 int64_t second_widths(const uint8_t *listing, size_t listing_length, uint8_t *out, size_t out_length);
 
+/* What is left of the report or the cover from byte `from` on: the whole lines of it that fit, as many as fit. Answers how
+   many bytes; 0 where nothing is left; or the refusal, which is 10 only where not even the first line fits. */
+int64_t second_report_part(const uint8_t *listing, size_t listing_length, size_t from, uint8_t *out, size_t out_length);
+int64_t second_cover_part(const uint8_t *listing, size_t listing_length, size_t from, uint8_t *out, size_t out_length);
+
 /* The steps, for the tests. */
 
 /* second_read.c */
@@ -110,6 +113,7 @@ bool second_near(struct second_requirement requirement, uint64_t bit);
 bool second_looks_at(struct second_requirement requirement, uint64_t bit, unsigned state);
 int64_t second_met_number(const struct second_requirement *live, unsigned number, uint64_t bit);
 int64_t second_gain(const struct second_requirement *live, unsigned number, uint64_t bit, unsigned state);
+void second_gains(const struct second_requirement *live, unsigned number, uint64_t bit, int64_t gain[SECOND_STATES]);
 uint64_t second_build_bit(const struct second_requirement *live, unsigned number, unsigned states,
                           uint64_t *passes, uint64_t *looks);
 struct second_refusal second_build_code(const struct second_requirements *requirements, unsigned states,
@@ -117,6 +121,7 @@ struct second_refusal second_build_code(const struct second_requirements *requir
 
 /* second.c */
 char second_face_place(uint64_t group, uint64_t bit);
+int64_t second_part(const uint8_t *text, size_t text_length, size_t from, uint8_t *out, size_t out_length);
 
 /* second_trial.c: the trial record (01, "Looks"). Each of these answers SECOND_FINE or SECOND_BAD_CALL. */
 struct second_trial {

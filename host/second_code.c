@@ -124,21 +124,36 @@ int64_t second_gain(const struct second_requirement *live, unsigned number, uint
     return gain;
 }
 
+/* The gains of all states. A requirement that is not near is met neither now nor after one flip, so it is passed over;
+   what a near one adds to a gain is "met after the flip less met now". */
+void second_gains(const struct second_requirement *live, unsigned number, uint64_t bit, int64_t gain[SECOND_STATES])
+{
+    memset(gain, 0, SECOND_STATES * sizeof gain[0]);
+    for (unsigned r = 0; r < number; r++) {
+        if (!second_near(live[r], bit))
+            continue;
+        bool met = second_bit_meets(live[r], bit);
+        for (uint64_t left = live[r].first | live[r].second; left != 0; left &= left - 1) {
+            unsigned state = (unsigned)__builtin_ctzll(left);
+            gain[state] += second_bit_meets(live[r], bit ^ only(state)) - met;
+        }
+    }
+}
+
 /* "The free state with the greatest gain, lowest number on ties". */
 static unsigned pick(const struct second_requirement *live, unsigned number, uint64_t bit, unsigned states,
                      uint64_t free)
 {
+    int64_t gain[SECOND_STATES];
     unsigned best = 0;
-    int64_t best_gain = 0;
     bool found = false;
+    second_gains(live, number, bit, gain);
     for (unsigned state = 0; state < states; state++) {
         if ((free & only(state)) == 0)
             continue;
-        int64_t gain = second_gain(live, number, bit, state);
-        if (!found || gain > best_gain) {
+        if (!found || gain[state] > gain[best]) {
             found = true;
             best = state;
-            best_gain = gain;
         }
     }
     return best;
@@ -198,8 +213,8 @@ static unsigned still_live(const struct second_requirements *requirements, const
     return number;
 }
 
-/* "Width 0: go on until every requirement is met. Width 1..32: stop at that many bits." "With none live, no bit is
-   added." 7 is "width 0, and 32 bits leave something unmet". That a new bit meets something that was unmet is not asked
+/* "Width 0: go on until every requirement is met"; any other: "stop at that many bits." "With none live, no bit is added."
+   "Width 0 now gives refusal 7 after 64 bits" (02, request 09). That a new bit meets something that was unmet is not asked
    here: 02 (request 06) has it shown, and self looks whether each bit does. */
 struct second_refusal second_build_code(const struct second_requirements *requirements, unsigned states,
                                         unsigned width, struct second_code *code)

@@ -108,7 +108,7 @@ static uint64_t states_with(struct field field, char character)
     return set;
 }
 
-/* "`MC n i o w`: states 1..32, inputs 1..16, outputs 1..32, width 0..32." */
+/* "`MC n i o w`: states 1..32, inputs 1..16, outputs 1..32, width 0..32"; 64 for states and width (02, request 09). */
 static unsigned read_mc(const struct field *field, size_t fields, struct second_machine *machine)
 {
     if (fields != 5)

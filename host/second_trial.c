@@ -7,8 +7,8 @@ static void make_empty(struct second_trial *trial)
     memset(trial, 0, sizeof *trial);
 }
 
-/* 11: "n not 1..32, over 256 requirements, block lists of unlike length, a state or mask bit not below n, blocks that
-   overlap". "a mask bit not below n" is said of the bit as well as of the blocks (reading 17). */
+/* 11: "n not 1..32" (64 now: 02, request 09), "over 256 requirements, block lists of unlike length, a state or mask bit not
+   below n, blocks that overlap". "a mask bit not below n" is said of the bit as well as of the blocks (reading 17). */
 static bool is_good_start(uint64_t states, uint64_t bit, const uint64_t *firsts, size_t first_number,
                           const uint64_t *seconds, size_t second_number)
 {

@@ -1,6 +1,8 @@
 /* Stands in for the library while there is none: the second encoder's answers under the library's names, spoilt in one
    way if STAND_IN_FAULT says so, to show that the comparison finds it. */
 #include "adapter.h"
+#include "generate.h"
+#include "known.h"
 #include "tsurmokan.h"
 
 #ifndef STAND_IN_FAULT
@@ -68,6 +70,87 @@ int64_t tsurmokan_widths(const uint8_t *listing, size_t listing_length, uint8_t 
     if (fault(18) && answer > 3)
         out[answer - 5] ^= 1; /* the last width's covered */
     return answer;
+}
+
+/* What is left of a text from a byte on: the rule spoilt, then an answer spoilt. */
+static int64_t spoilt_part(const uint8_t *text, size_t length, size_t from, uint8_t *out, size_t out_length)
+{
+    static size_t given;
+    if (fault(19))
+        while (from > 0 && from < length && text[from - 1] != '\n')
+            from--; /* from the start of the line that `from` lies in */
+    if (fault(20) && from > length)
+        return -1000000; /* past the end */
+    if (fault(21) && from == length)
+        return -1000000; /* the end */
+    if (fault(22) && out_length > 0)
+        out_length--; /* a line that just fits */
+    if (fault(23))
+        from = (uint32_t)from;
+    if (fault(24) && from > 0)
+        from = given; /* a place that is kept from call to call */
+    if (fault(25) && from < length && length - from > out_length)
+        return -1000000; /* no room for all that is left */
+    if (fault(26) && length - from == 3)
+        return 0; /* the end before the last line */
+    int64_t answer = second_part(text, length, from, out, out_length);
+    given = answer > 0 ? from + (size_t)answer : 0;
+    if (fault(27) && answer > 0 && (size_t)answer < out_length && from + (size_t)answer < length) {
+        out[answer] = text[from + (size_t)answer]; /* a line begun that does not fit */
+        answer++;
+    }
+    if (fault(28) && answer > 200) {
+        do
+            answer--; /* a line too few */
+        while (out[answer - 1] != '\n');
+    }
+    if (fault(29) && answer > 0 && (size_t)answer < out_length)
+        out[answer] ^= 1; /* a byte behind the part */
+    if (fault(30) && answer == -1000000 && out_length > 0)
+        out[0] = text[from]; /* a refusal that writes */
+    if (fault(31) && answer == 0)
+        out[0] ^= 1; /* nothing left, and a byte written */
+    if (fault(32) && answer > 0)
+        out[out_length] ^= 1; /* a byte behind the buffer */
+    return answer;
+}
+
+/* The whole text, made anew only where it is another one's: the second encoder takes long. */
+static int64_t make_text(entry *whole, const uint8_t *listing, size_t listing_length, uint8_t text[SECOND_TEXT])
+{
+    static entry *last;
+    static uint8_t last_listing[GENERATE_BYTES];
+    static size_t last_length;
+    static int64_t answer;
+    if (whole == last && listing_length == last_length && memcmp(listing, last_listing, listing_length) == 0)
+        return answer;
+    last = whole;
+    last_length = listing_length;
+    memcpy(last_listing, listing, listing_length);
+    answer = whole(listing, listing_length, text, SECOND_TEXT);
+    return answer;
+}
+
+static int64_t part_of(entry *whole, const uint8_t *listing, size_t listing_length, size_t from, uint8_t *out,
+                       size_t out_length)
+{
+    static uint8_t text[SECOND_TEXT];
+    int64_t answer = make_text(whole, listing, listing_length, text);
+    if (fault(33) && out_length == 0)
+        return -1000000; /* 10 before the listing's own refusal */
+    if (fault(34) && answer == -900000)
+        return 0; /* nothing left of a text that there is not */
+    return answer < 0 ? answer : spoilt_part(text, (size_t)answer, from, out, out_length);
+}
+
+int64_t tsurmokan_report_part(const uint8_t *listing, size_t listing_length, size_t from, uint8_t *out, size_t out_length)
+{
+    return part_of(second_report, listing, listing_length, from, out, out_length);
+}
+
+int64_t tsurmokan_cover_part(const uint8_t *listing, size_t listing_length, size_t from, uint8_t *out, size_t out_length)
+{
+    return part_of(second_cover, listing, listing_length, from, out, out_length);
 }
 
 static struct second_trial held;

@@ -8,9 +8,12 @@
 
 /* ---- a listing's report and cover ---- */
 
-/* No report is longer, and no cover: a buffer of this many bytes always has room. (A line of counts, 32 lines of codes, a line for each
- * of 4,400 requirements, and the end: report-length of crates/write_report/proofs/Length.antt.) */
-#define TSURMOKAN_ROOM 49709
+/* No report is longer, and no cover: a buffer of this many bytes always has room. (A line of counts, 64 lines of codes, a line for each
+ * of 10,016 requirements, and the end: report-length of crates/write_report/proofs/Length.antt.) A cover has at most 22,806. */
+#define TSURMOKAN_ROOM 124799
+
+/* No line of a report or of a cover is longer, its LF included: a buffer of this many bytes has room for some part of either. */
+#define TSURMOKAN_LINE 178
 
 /* The report of a listing: each state's code, which bit meets which requirement, and what the code leaves unmet.
  *   listing, listing_length   the listing's bytes, any bytes at all
@@ -25,8 +28,22 @@ extern int64_t tsurmokan_cover(const uint8_t *listing, size_t listing_length, ui
 
 /* What each width buys: a line `WD width unmet covered` for each width from 1 to the last that adds a bit, where covered is 1 if a
  * cover would be written in a code of that width, and then `EN`. As above; the listing's own width is not used, and 7 and 9 are never
- * given. 419 bytes are always enough. */
+ * given. 899 bytes are always enough. */
 extern int64_t tsurmokan_widths(const uint8_t *listing, size_t listing_length, uint8_t *out, size_t out_length);
+
+/* ---- the same in parts, for a host that is short of memory ---- */
+
+/* What is left of the report of a listing from byte `from` on: as many whole lines as fit.
+ *   from                      how many bytes of the report the host has already, 0 at first; any number has its answer, and where
+ *                             it lies within a line, the first of the lines is the rest of that one
+ *   the others                as above
+ * Answers the number of bytes written, whose last is a LF; or 0 where `from` is the report's length or more, and then `out` is as
+ * it came. Or a refusal, as above: the listing's own, which is the one that tsurmokan_report gives, or 10 where not even the first
+ * line fits. The parts, one after the other, are the report byte for byte. Nothing is kept between two calls: each encodes anew. */
+extern int64_t tsurmokan_report_part(const uint8_t *listing, size_t listing_length, size_t from, uint8_t *out, size_t out_length);
+
+/* The same of the cover, with the refusals of tsurmokan_cover. */
+extern int64_t tsurmokan_cover_part(const uint8_t *listing, size_t listing_length, size_t from, uint8_t *out, size_t out_length);
 
 /* ---- single moves on one bit ---- */
 
@@ -57,7 +74,7 @@ struct tsurmokan_started {
 };
 
 /* A record of `states` states at a bit, with requirement r asking that firsts[r] has one value and seconds[r] the other, all of them live.
- * Refused 11, with the empty record, where states is not 1 to 32, there are more than 256 requirements, the two lists are not of one
+ * Refused 11, with the empty record, where states is not 1 to 64, there are more than 256 requirements, the two lists are not of one
  * length, the bit or a block has a state that is not below `states`, or two blocks of one requirement overlap. No pointer is null, though
  * a list may have length 0. */
 extern struct tsurmokan_started tsurmokan_start(size_t states, uint64_t bit, const uint64_t *firsts, size_t firsts_length,

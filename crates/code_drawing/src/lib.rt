@@ -7,9 +7,10 @@ ghost use lib.Dec.{leb, ltb};
 ghost use lib.ListN.{length, take};
 ghost use Rattle.sets.specs.Sets.{size};
 ghost use Rattle.rules.specs.Limits.{most-states, most-rows, most-dichotomies};
-ghost use Rattle.rules.specs.Listing.{rowsOf, dichotomiesOf};
 ghost use Rattle.code_drawing.specs.Drawing.{standsIn, family, withGroup, withGroups, dichotomyWords, pairsOf, familiesOf, firstFamilies, allFamilies, Drew};
 use rules::Listing;
+use rules::Requirement;
+use rules::Row;
 
 // Room for the families of the most rows and the most dichotomies, and with those of the pairs.
 pub const WORDS: usize = 3 * (rules::MOST_ROWS + rules::MOST_DICHOTOMIES);
@@ -66,33 +67,43 @@ fn draw_group(fs: &mut [u64], at: usize, n: usize, g: u64) -> usize
     put_family(fs, at, g, 0, families::without_of(sets::everyone_of(n), g))
 }
 
-// The families of the rows' groups.
-fn draw_rows(t: Listing, fs: &mut [u64], at: usize) -> usize
+// The families of the groups of a table's first rows. The table comes without its listing: each function that reads a value in a loop holds a copy of it.
+fn draw_rows(
+    n: usize,
+    count: usize,
+    table: [Row; rules::MOST_ROWS],
+    fs: &mut [u64],
+    at: usize,
+) -> usize
     requires { ⌜ at + 3 * most-rows ≤ length (now fs) ⌝ }
-    ensures { λ r. ⌜ Drew (now (fs .entry)) (withGroups (t .head .states) (take at (now (fs .entry))) (rowsOf t)) r (now (fs .exit)) ⌝ }
+    ensures { λ r. ⌜ Drew (now (fs .entry)) (withGroups n (take at (now (fs .entry))) (take count table)) r (now (fs .exit)) ⌝ }
 {
-    let n = t.head.states;
-    let rows = sets::least(t.rows, rules::MOST_ROWS);
+    let rows = sets::least(count, rules::MOST_ROWS);
     let mut r: usize = 0;
     let mut k = at;
     while r < rows {
-        let row = t.table[r];
+        let row = table[r];
         k = draw_group(fs, k, n, row.group);
         r += 1;
     }
     k
 }
 
-// The families of the dichotomies.
-fn draw_dichotomies(t: Listing, fs: &mut [u64], at: usize) -> usize
+// The families of the first dichotomies of a table.
+fn draw_dichotomies(
+    count: usize,
+    table: [Requirement; rules::MOST_DICHOTOMIES],
+    fs: &mut [u64],
+    at: usize,
+) -> usize
     requires { ⌜ at + 3 * most-dichotomies ≤ length (now fs) ⌝ }
-    ensures { λ r. ⌜ Drew (now (fs .entry)) (take at (now (fs .entry)) ++ dichotomyWords (dichotomiesOf t)) r (now (fs .exit)) ⌝ }
+    ensures { λ r. ⌜ Drew (now (fs .entry)) (take at (now (fs .entry)) ++ dichotomyWords (take count table)) r (now (fs .exit)) ⌝ }
 {
-    let n = sets::least(t.dichotomies, rules::MOST_DICHOTOMIES);
+    let n = sets::least(count, rules::MOST_DICHOTOMIES);
     let mut d: usize = 0;
     let mut k = at;
     while d < n {
-        let asked = t.asked[d];
+        let asked = table[d];
         k = put_family(fs, k, asked.first | asked.second, asked.second, 0);
         d += 1;
     }
@@ -125,8 +136,10 @@ fn draw_pairs(n: usize, fs: &mut [u64]) -> usize
 pub fn draw(t: Listing, fs: &mut [u64; WORDS]) -> usize
     ensures { λ r. ⌜ Drew (now (fs .entry)) (familiesOf t) r (now (fs .exit)) ⌝ }
 {
-    let k = draw_rows(t, fs, 0);
-    draw_dichotomies(t, fs, k)
+    let table = t.table;
+    let asked = t.asked;
+    let k = draw_rows(t.head.states, t.rows, table, fs, 0);
+    draw_dichotomies(t.dichotomies, asked, fs, k)
 }
 
 // The families of a listing's pairs and groups, where there is room for them.
@@ -134,14 +147,23 @@ fn draw_before(t: Listing, fs: &mut [u64]) -> usize
     requires { ⌜ 3 * most-states + 3 * most-rows ≤ length (now fs) ⌝ }
     ensures { λ r. ⌜ Drew (now (fs .entry)) (firstFamilies t) r (now (fs .exit)) ⌝ }
 {
+    let table = t.table;
     let k = draw_pairs(sets::least(t.head.states, rules::MOST_STATES), fs);
-    draw_rows(t, fs, k)
+    draw_rows(t.head.states, t.rows, table, fs, k)
+}
+
+// The families of a listing's pairs and groups.
+pub fn draw_first(t: Listing, fs: &mut [u64; ALL_WORDS]) -> usize
+    ensures { λ r. ⌜ Drew (now (fs .entry)) (firstFamilies t) r (now (fs .exit)) ⌝ }
+{
+    draw_before(t, fs)
 }
 
 // The families of all that a listing asks.
 pub fn draw_all(t: Listing, fs: &mut [u64; ALL_WORDS]) -> usize
     ensures { λ r. ⌜ Drew (now (fs .entry)) (allFamilies t) r (now (fs .exit)) ⌝ }
 {
+    let asked = t.asked;
     let k = draw_before(t, fs);
-    draw_dichotomies(t, fs, k)
+    draw_dichotomies(t.dichotomies, asked, fs, k)
 }

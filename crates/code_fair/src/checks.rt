@@ -1,9 +1,8 @@
 // Whether a listing is fair: its numbers, its groups and its dichotomies, one after the other.
 ghost use mathlib.Core.Path.{_≡_};
 ghost use mathlib.Core.Bool.{true};
-ghost use Prim.Native.Nat.{_≤_, _^_};
+ghost use Prim.Native.Nat.{_^_};
 ghost use lib.Dec.{ltb};
-ghost use Rattle.rules.specs.Limits.{most-states};
 ghost use Rattle.rules.specs.Listing.{rowsOf, dichotomiesOf};
 ghost use Rattle.code_fair.specs.Fair.{each, groupWithin, blocksWithin, withinLimits};
 use rules::Listing;
@@ -11,9 +10,11 @@ use rules::Requirement;
 
 // Whether the states of m are all below n.
 fn within(n: usize, m: u64) -> bool
-    requires { ⌜ n ≤ most-states ⌝ }
     ensures { λ r. ⌜ r ≡ ltb m (2 ^ n) ⌝ }
 {
+    if 64 <= n {
+        return true;
+    }
     m < 1 << n
 }
 
@@ -55,7 +56,6 @@ pub fn groups_within(t: Listing) -> bool
 
 // Whether a dichotomy has two blocks of the states that have none in common.
 fn blocks_within(n: usize, d: Requirement) -> bool
-    requires { ⌜ n ≤ most-states ⌝ }
     ensures { λ r. ⌜ r ≡ blocksWithin n d ⌝ }
 {
     if !within(n, d.first) {

@@ -1,102 +1,127 @@
--- What is printed of what was said is 01's reply, printed, where there is room enough; and it fits.
-use mathlib.Core.Path.{_≡_, refl, sym, ap, ap₂, _∙_, subst}
-use mathlib.Core.Bool.{Bool, true, false, cond}
-use mathlib.Core.List.{List, _++_}
-use Prim.Native.Nat.{ℕ, _^_, _≤_, _<_}
+-- What is printed is the reply, in parts: a refusal's line, or the lines of the text; parts of a buffer that holds the longest line are the whole.
+use mathlib.Core.Path.{_≡_, refl, sym, ap, ap₂, subst, _∙_}
+use mathlib.Core.Bool.{Bool, true, false}
+use mathlib.Core.List.{List, [], _∷_, _++_, append-nil}
+use Prim.Native.Nat.{ℕ, _+_, _^_, _≤_, _<_}
 use native.Mathlib.Omega.{arith}
-use borrow.Author.Tests.{le-leb, lt-ltb, le-ltb, ltb-false}
-use lib.Dec.{ltb}
-use lib.ListN.{length, drop, length-append}
-use Rattle.rules.specs.Text.{decimal}
+use lib.ListN.{length, drop, length-append, length-drop}
 use Rattle.rules.specs.Refusals.{number}
+use Rattle.rules.specs.Limits.{most-bytes}
+use Rattle.rules.specs.Report.{joinedLines}
 use Rattle.rules.specs.Answers.{Reply, says, refuses, printed}
+use Rattle.rules.specs.Parts.{wholeLines, part, gathered}
+use Rattle.rules.specs.declared.Verdict.{Verdict}
 use Rattle.rules.specs.declared.Refusal.{Refusal}
-use Rattle.rules.specs.declared.Refusal.the-variants.{BadLine, Limit, Place, EmptyGroup, NextState, Conflict, TooWide, Unmet, NoRoom, BadCall}
-use Rattle.write_pen.specs.Pen.{Wrote}
 use Rattle.rules.proofs.Decimal.{decimal-length}
-use Rattle.write_pen.proofs.Laws.{wrote-length, wrote-all}
-use Rattle.host_replies.specs.declared.Said.{Said}
-use Rattle.host_replies.specs.Saying.{saying}
-use Rattle.host_replies.proofs.Small.{Small}
-use Rattle.host_prints.specs.Told.{atStart, told, printing, Holding}
+use Rattle.rules.proofs.Ended.{Pieces, no-piece, piece}
+use Rattle.rules.proofs.Parts.{whole-front, part-fits, AllFit, fit-none, fit-more, gathered-all}
+use Rattle.rules.proofs.ReportLines.{refused-ended}
+use Rattle.write_parts.specs.Parts.{begun, added, addedAll, longest-line}
+use Rattle.write_parts.proofs.Adding.{Lent, all-one}
+use Rattle.write_parts.proofs.Parted.{Made, made}
+use Rattle.write_texts.specs.declared.Wanted.{Wanted}
+use Rattle.host_replies.specs.Ready.{ready, linesOf, replyOf, longest}
+use Rattle.host_replies.specs.Saying.{replyTo}
+use Rattle.host_replies.specs.declared.Ready.{Ready}
+use Rattle.host_replies.proofs.Replies.{Small, reply-is, reply-small, reply-fits}
+use Rattle.host_replies.proofs.Sayings.{reply-accepted, reply-refused, ready-pieces, lines-refused}
+use Rattle.host_prints.specs.Printing.{readyFor, printing}
 
--- what is said holds, and is told as the reply
-record Right (reply : Reply) (out : List ℕ) (said : Said) (after : List ℕ) : Type 0 where
-  pub holding : Holding said (length out)
-  pub telling : told said after ≡ atStart (printed reply) out
+-- ---- a refusal's line
 
-right : (reply : Reply) (out : List ℕ) → Small reply → 100000 ≤ length out → Right reply out (saying reply out .0) (saying reply out .1)
-unfolding saying told printed
-right (says text) out h room =
-    let l : length text ≤ length out = omega arith in
-    subst (λ (b : Bool). let c : Said × List ℕ = cond b (Said.Text (length text), text ++ drop (length text) out) (Said.Refused NoRoom 0, out) in Right (says text) out (c .0) (c .1))
-    (sym (le-leb (length text) (length out) l))
-    (record { holding = l; telling = refl })
-right (refuses r line) out h room = record { holding = (h, room); telling = refl }
+number-few : (r : Refusal) → number r < 100
+number-few Refusal.BadLine = omega arith
+number-few Refusal.Limit = omega arith
+number-few Refusal.Place = omega arith
+number-few Refusal.EmptyGroup = omega arith
+number-few Refusal.NextState = omega arith
+number-few Refusal.Conflict = omega arith
+number-few Refusal.TooWide = omega arith
+number-few Refusal.Unmet = omega arith
+number-few Refusal.NoRoom = omega arith
+number-few Refusal.BadCall = omega arith
 
-module _ (reply : Reply) (out : List ℕ) (said : Said) (after : List ℕ) (e : _≡_ {A = Said × List ℕ} (said, after) (saying reply out)) (h : Small reply) (room : 100000 ≤ length out) where
-  here : Right reply out said after
-  here = subst (λ (p : Said × List ℕ). Right reply out (p .0) (p .1)) (sym e) (right reply out h room)
-
-  pub it-holds : Holding said (length out)
-  it-holds = here .holding
-
-  pub it-tells : (p : ℕ × List ℕ) → p ≡ told said after → p ≡ printing reply out
-  unfolding printing
-  it-tells p q = q ∙ here .telling ∙ sym (ap (λ (b : Bool). cond b (0, out) (atStart (printed reply) out)) (le-ltb (length out) 100000 room))
-
--- ---- a refusal is short
-
-number-few : (r : Refusal) → number r < 10 ^ 2
-number-few BadLine = omega arith
-number-few Limit = omega arith
-number-few Place = omega arith
-number-few EmptyGroup = omega arith
-number-few NextState = omega arith
-number-few Conflict = omega arith
-number-few TooWide = omega arith
-number-few Unmet = omega arith
-number-few NoRoom = omega arith
-number-few BadCall = omega arith
-
-refusal-length : (r : Refusal) (line : ℕ) → line < 100000 → length (printed (refuses r line)) ≤ 20
+-- by how many digits behind the first the line has
+pub refusal-length : (d : ℕ) (r : Refusal) (k : ℕ) → k < 10 ^ (d + 1) → length (printed (refuses r k)) ≤ d + 8
 unfolding printed
-refusal-length r line h =
-    let a : length (decimal (number r)) ≤ 2 = decimal-length 1 (number r) (number-few r) in
-    let b : length (decimal line) ≤ 5 = decimal-length 4 line (omega arith) in
-    simp length-append (omega arith)
+refusal-length d r k h = simp length-append (omega (arith, decimal-length 1 (number r) (number-few r), decimal-length d k h))
 
-reply-length : (reply : Reply) → Small reply → length (printed reply) < 100000
+-- ---- what is printed of any value that is ready
+
+module _ (d : Ready) (from : ℕ) (out : List ℕ) (s : Lent) where
+  pub refused-printed : (r : Refusal) (k : ℕ) → d .verdict ≡ Verdict.Refused r k → s ≡ added (printed (refuses r k)) (begun from, out) → (s .0 .given, s .1) ≡ printing (replyOf d) from out
+  unfolding printing joinedLines
+  refused-printed r k h e =
+      let l : List ℕ = printed (refuses r k) in
+      let m : Made (joinedLines (l ∷ [])) from out s = rw (e, ← all-one l (begun from, out)) (made (l ∷ []) (piece (refused-ended r k) no-piece) from out) in
+      let same : joinedLines (l ∷ []) ≡ printed (replyOf d) = append-nil l ∙ sym (ap printed (reply-refused d r k h)) in
+      ap₂ (λ (n : ℕ) (o : List ℕ). (n, o)) (m .given) (m .holds)
+      ∙ ap (λ (text : List ℕ). (length (part (length out) from text), part (length out) from text ++ drop (length (part (length out) from text)) out)) same
+
+  pub text-printed : d .verdict ≡ Verdict.Accepted → s ≡ addedAll (linesOf d) (begun from, out) → (s .0 .given, s .1) ≡ printing (replyOf d) from out
+  unfolding printing printed
+  text-printed h e =
+      let m : Made (joinedLines (linesOf d)) from out s = rw e (made (linesOf d) (ready-pieces d) from out) in
+      let same : joinedLines (linesOf d) ≡ printed (replyOf d) = sym (ap printed (reply-accepted d h)) in
+      ap₂ (λ (n : ℕ) (o : List ℕ). (n, o)) (m .given) (m .holds)
+      ∙ ap (λ (text : List ℕ). (length (part (length out) from text), part (length out) from text ++ drop (length (part (length out) from text)) out)) same
+
+-- no more than there is room for
+pub printed-few : (reply : Reply) (from : ℕ) (out : List ℕ) (r : ℕ) (after : List ℕ) → _≡_ {A = ℕ × List ℕ} (r, after) (printing reply from out) → length after ≡ length out → r ≤ length after
+unfolding printing
+printed-few reply from out r after e same = omega (arith, ap (λ (p : ℕ × List ℕ). p .0) e, part-fits (length out) from (printed reply))
+
+text-short : (text : List ℕ) → length text ≤ longest → length (printed (says text)) < 2 ^ 64
 unfolding printed
-reply-length (says text) h = omega arith
-reply-length (refuses r line) h = omega (arith, refusal-length r line h)
+text-short text h = omega arith
 
--- ---- the two ways to tell
+-- and no more than is left
+pub gets-further : (reply : Reply) (from : ℕ) (out : List ℕ) (r : ℕ) (after : List ℕ) → _≡_ {A = ℕ × List ℕ} (r, after) (printing reply from out) → from ≤ length (printed reply)
+    → from + r ≤ length (printed reply)
+unfolding printing part
+gets-further reply from out r after e h =
+    let left : List ℕ = drop from (printed reply) in
+    let given : List ℕ = wholeLines (length out) left in
+    omega (
+      arith,
+      ap (λ (p : ℕ × List ℕ). p .0) e,
+      length-drop from (printed reply),
+      ap length (whole-front (length out) left),
+      length-append given (drop (length given) left),
+    )
 
-module _ (out : List ℕ) (said : Said) (h : Holding said (length out)) where
-  pub tell-text : (n : ℕ) → said ≡ Said.Text n → _≡_ {A = ℕ × List ℕ} (n, out) (told said out)
-  unfolding told
-  tell-text n e = sym (ap (λ (x : Said). told x out) e)
+-- what is printed of a listing is short
+pub printed-short : (w : Wanted) (s : List ℕ) (more : Bool) → length (printed (replyOf (readyFor w s more))) < 2 ^ 64
+unfolding readyFor replyOf
+printed-short w s true = omega (arith, refusal-length 0 Refusal.Limit 0 (omega arith))
+printed-short w s false = go (replyOf (ready w s)) (reply-small w s)
+  where
+    go : (x : Reply) → Small x → length (printed x) < 2 ^ 64
+    go (says text) h = text-short text h
+    go (refuses r k) h = omega (arith, refusal-length 4 r k h)
 
-  pub tell-refusal : (r : Refusal) (line : ℕ) → said ≡ Said.Refused r line → (k : ℕ) (after : List ℕ) → Wrote out 0 (printed (refuses r line)) k after
-      → _≡_ {A = ℕ × List ℕ} (k, after) (told said out)
-  unfolding told
-  tell-refusal r line e k after w =
-      let g : Holding (Said.Refused r line) (length out) = subst (λ (x : Said). Holding x (length out)) e h in
-      let few : length (printed (refuses r line)) ≤ 20 = refusal-length r line (g .0) in
-      ap₂ (λ (j : ℕ) (x : List ℕ). (j, x)) (wrote-length w (omega arith)) (wrote-all w (omega (arith, g .1))) ∙ sym (ap (λ (x : Said). told x out) e)
+-- ---- parts with room for the longest line are the whole
 
--- ---- too little room, and what a program may count on
+fit-wider : {room wide : ℕ} {ls : List (List ℕ)} → room ≤ wide → AllFit room ls → AllFit wide ls
+fit-wider h fit-none = fit-none
+fit-wider h (fit-more {l = l} f fs) = fit-more {l = l} (omega arith) (fit-wider h fs)
 
-module _ (reply : Reply) (out : List ℕ) where
-  pub nothing-printed : length out < 100000 → _≡_ {A = ℕ × List ℕ} (0, out) (printing reply out)
-  unfolding printing
-  nothing-printed h = sym (ap (λ (b : Bool). cond b (0, out) (atStart (printed reply) out)) (lt-ltb (length out) 100000 h))
+module _ (w : Wanted) (s : List ℕ) (room : ℕ) (enough : longest-line ≤ room) where
+  abbrev text : List ℕ
+  text = printed (replyOf (ready w s))
 
-  printed-few : (b : Bool) → ltb (length out) 100000 ≡ b → Small reply → cond b (0, out) (atStart (printed reply) out) .0 ≤ length out
-  printed-few true e h = omega arith
-  printed-few false e h = omega (arith, ltb-false (length out) 100000 e, reply-length reply h)
+  by-verdict : (v : Verdict) → ready w s .verdict ≡ v → gathered room (length text) text ≡ text
+  unfolding printed joinedLines
+  by-verdict Verdict.Accepted h =
+      let same : joinedLines (linesOf (ready w s)) ≡ text = sym (ap printed (reply-accepted (ready w s) h)) in
+      subst (λ (t : List ℕ). gathered room (length t) t ≡ t) same (gathered-all room (linesOf (ready w s)) (ready-pieces (ready w s)) (fit-wider enough (reply-fits w s)))
+  by-verdict (Verdict.Refused r k) h =
+      let l : List ℕ = printed (refuses r k) in
+      let few : k < 100000 = subst Small (reply-refused (ready w s) r k h) (reply-small w s) in
+      let same : joinedLines (l ∷ []) ≡ text = append-nil l ∙ sym (ap printed (reply-refused (ready w s) r k h)) in
+      subst (λ (t : List ℕ). gathered room (length t) t ≡ t) same
+      (gathered-all room (l ∷ []) (piece (refused-ended r k) no-piece) (fit-more {l = l} (omega (arith, refusal-length 4 r k few)) fit-none))
 
-  pub printing-fits : (r : ℕ) (after : List ℕ) → _≡_ {A = ℕ × List ℕ} (r, after) (printing reply out) → Small reply → r ≤ length out
-  unfolding printing
-  printing-fits r after e h = subst (λ (k : ℕ). k ≤ length out) (sym (ap (λ (p : ℕ × List ℕ). p .0) e)) (printed-few (ltb (length out) 100000) refl h)
+  -- a program that prints parts until none is given prints the reply, byte for byte
+  pub parts-are-all : gathered room (length (printed (replyTo w s))) (printed (replyTo w s)) ≡ printed (replyTo w s)
+  parts-are-all = subst (λ (x : Reply). gathered room (length (printed x)) (printed x) ≡ printed x) (reply-is w s) (by-verdict (ready w s .verdict) refl)

@@ -1,7 +1,7 @@
 -- What the encoder answers for a sound listing: its code, held whole and within bounds, or 01's refusal.
 use mathlib.Core.Path.{_≡_, refl, sym, ap, _∙_, subst}
 use mathlib.Core.Bool.{true}
-use Prim.Native.Nat.{ℕ, _-_, _≤_}
+use Prim.Native.Nat.{ℕ, _-_, _^_, _≤_, _<_}
 use native.Mathlib.Omega.{arith}
 use lib.ListN.{length, replicate}
 use lib.Seq.{take-append-seam}
@@ -21,7 +21,16 @@ use Rattle.code_encoding.specs.Encode.{encodedAs, encoded}
 use Rattle.code_encoding.proofs.Answered.{encoded-is}
 use Rattle.bit_next.proofs.Counters.{FewIn, few-counted}
 use Rattle.write_report.specs.Report.{Holds}
-use Rattle.host_replies.specs.Saying.{Whole}
+
+-- an answer that holds the code of a sound listing
+pub record Whole (t : Listing) (e : Encoding) : Type 0 where
+  pub sound : Sound t
+  pub code : Code
+  pub is : coding t ≡ coded code
+  pub holds : Holds t code e
+  pub narrow : e .width ≤ most-bits
+  pub few-passes : e .passes < 2 ^ 64
+  pub few-looks : e .looks < 2 ^ 64
 
 module _ (t : Listing) (s : Sound t) where
   few-bits : mostOf t ≤ most-bits
@@ -59,28 +68,3 @@ module _ (t : Listing) (s : Sound t) where
 
   pub fair-encoded : encoded t ≡ encodedAs t (coding t)
   fair-encoded = sym (encoded-is t true (sound-fair t s))
-
-  -- ---- the two answers
-
-  not-accepted : (r : Refusal) (k : ℕ) → Verdict.Refused r k ≡ Verdict.Accepted → ⊥
-  not-accepted r k e = let z : _≡_ {A = ℕ} 0 1 = ap (λ (v : Verdict). elim v [ Verdict.Accepted ↦ 1 | Verdict.Refused r k ↦ 0 ]) e in omega arith
-
-  pub whole : (e : Encoding) → e ≡ encoded t → e .verdict ≡ Verdict.Accepted → Whole t e
-  unfolding encodedAs
-  whole e h v = subst (Whole t) (sym here) (go (coding t) refl (sym (ap (λ (x : Encoding). x .verdict) here) ∙ v))
-    where
-      here : e ≡ encodedAs t (coding t)
-      here = h ∙ fair-encoded
-
-      go : (a : Coding) → coding t ≡ a → encodedAs t a .verdict ≡ Verdict.Accepted → Whole t (encodedAs t a)
-      go (coded c) q w = whole-as c q
-      go (uncoded r) q w = absurd (not-accepted r 0 w)
-
-  pub no-code : (e : Encoding) → e ≡ encoded t → (r : Refusal) (k : ℕ) → e .verdict ≡ Verdict.Refused r k → (coding t ≡ uncoded r) × (k ≡ 0)
-  unfolding encodedAs
-  no-code e h r k v = go (coding t) refl (sym (ap (λ (x : Encoding). x .verdict) (h ∙ fair-encoded)) ∙ v)
-    where
-      go : (a : Coding) → coding t ≡ a → encodedAs t a .verdict ≡ Verdict.Refused r k → (coding t ≡ uncoded r) × (k ≡ 0)
-      go (coded c) q w = absurd (not-accepted r k (sym w))
-      go (uncoded r′) q w =
-          (q ∙ ap uncoded (ap (λ (v : Verdict). elim v [ Verdict.Accepted ↦ r | Verdict.Refused s j ↦ s ]) w), sym (ap (λ (v : Verdict). elim v [ Verdict.Accepted ↦ k | Verdict.Refused s j ↦ j ]) w))

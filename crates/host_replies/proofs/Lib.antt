@@ -1,4 +1,5 @@
 pub mod Encodings
-pub mod Sayings
 pub mod Widths
-pub mod Small
+pub mod Texts
+pub mod Replies
+pub mod Sayings

@@ -1,174 +1,140 @@
--- Each thing said is 01's reply: the reader's refusal, the encoder's, the text where it fits, and 10 where it does not.
-use mathlib.Core.Path.{_≡_, refl, sym, ap, ap₂, _∙_, subst}
-use mathlib.Core.Bool.{Bool, true, cond}
-use mathlib.Core.List.{List}
+-- What is said from a value that is ready, whole or in parts, is its reply: a refusal, the text or the part of it that fits, or 10.
+use mathlib.Core.Path.{_≡_, refl, sym, ap, ap₂, _∙_}
+use mathlib.Core.Bool.{Bool, true, false, cond, _||_}
+use mathlib.Core.List.{List, [], _∷_, _++_}
 use Prim.Native.Nat.{ℕ, _≤_, _<_}
 use native.Mathlib.Omega.{arith}
-use borrow.Author.Tests.{le-leb, lt-leb}
-use lib.Dec.{leb}
-use lib.ListN.{length, take, length-take}
-use lib.Seq.{take-all}
-use Rattle.rules.specs.Listing.{reading}
-use Rattle.rules.specs.Requirements.{requirements, pairsAndGroups}
-use Rattle.rules.specs.Code.{uncoded, coding, unmetFrom, unmet}
-use Rattle.rules.specs.Cover.{cover}
-use Rattle.rules.specs.Answers.{Reply, says, refuses, onReading, reportOf, coverOf, reportReply}
-use Rattle.rules.specs.declared.Listing.{Listing}
-use Rattle.rules.specs.declared.Reading.{Reading}
-use Rattle.rules.specs.declared.Encoding.{Encoding}
+use borrow.Author.Tests.{le-leb, lt-leb, le-ltb, ltb-true, ltb-false, leb-true, leb-false}
+use lib.Dec.{leb, ltb}
+use lib.ListN.{length, drop, length-drop}
+use Rattle.rules.specs.Report.{joinedLines}
+use Rattle.rules.specs.Answers.{Reply, says, refuses}
+use Rattle.rules.specs.Parts.{part, getsOn}
 use Rattle.rules.specs.declared.Verdict.{Verdict}
 use Rattle.rules.specs.declared.Refusal.{Refusal}
-use Rattle.rules.specs.declared.Refusal.the-variants.{Unmet, NoRoom}
-use Rattle.rules.proofs.Sound.{Sound, accepted-sound, rows-length}
-use Rattle.code_encoding.specs.Encode.{encoded}
-use Rattle.write_pen.specs.Pen.{Wrote}
-use Rattle.write_pen.proofs.Laws.{wrote-all, wrote-length}
-use Rattle.write_report.specs.Report.{most-words, firstOf, encodedReport}
-use Rattle.code_judging.specs.Judging.{anyUnmet}
-use Rattle.write_report.proofs.Same.{same-report}
-use Rattle.code_judging.proofs.Judgement.{same-judged}
-use Rattle.write_report.proofs.Length.{report-length, unmet-few}
-use Rattle.write_widths.specs.Widths.{encodedWidths}
-use Rattle.write_widths.proofs.Same.{widths-length}
-use Rattle.code_fair.specs.Fair.{fair}
-use Rattle.code_fair.proofs.FairListings.{sound-fair}
-use Rattle.rules.specs.Limits.{most-asked}
-use Rattle.rules.proofs.Good.{AllGood, requirements-good}
-use Rattle.rules.proofs.Most.{most-requirements}
-use Rattle.families.specs.Families.{requirementsIn}
-use Rattle.code_drawing.specs.Drawing.{firstFamilies, allFamilies}
-use Rattle.code_drawing.proofs.Requirements.{all-are}
-use Rattle.code_drawing.proofs.Whole.{few-all}
-use Rattle.write_cover.specs.Covers.{Bounded}
-use Rattle.write_cover.proofs.Length.{cover-length}
-use Rattle.host_replies.specs.Saying.{longest, room, saying, Whole, textOf, textReply}
-use Rattle.host_replies.specs.declared.Text.{Text}
+use Rattle.rules.specs.declared.Refusal.the-variants.{NoRoom}
+use Rattle.write_parts.specs.Parts.{begun, addedAll}
+use Rattle.write_parts.proofs.Adding.{Lent}
+use Rattle.rules.proofs.Ended.{Pieces, no-piece}
+use Rattle.write_parts.proofs.Parted.{Made, made, whole-part}
+use Rattle.write_texts.specs.Texts.{textLines}
+use Rattle.write_texts.proofs.Lines.{text-pieces}
+use Rattle.host_replies.specs.Ready.{linesOf, replyOf, longest, Few}
+use Rattle.host_replies.specs.Saying.{saying, sayingPart}
+use Rattle.host_replies.specs.declared.Ready.{Ready}
 use Rattle.host_replies.specs.declared.Said.{Said}
-use Rattle.host_replies.proofs.Encodings.{no-code}
+use Rattle.host_replies.proofs.Replies.{Small}
 
--- ---- the reader's refusal, or the listing's own reply
+empty : (l : List ℕ) → length l ≡ 0 → l ≡ []
+empty [] e = refl
+empty (x ∷ l) e = absurd (omega arith)
 
-pub read-first : (w : Text) (s : List ℕ) → textReply w s ≡ onReading (reading s) (textOf w)
-unfolding textReply textOf
-read-first Text.Report s = refl
-read-first Text.Cover s = refl
+-- ---- a value that is ready, by its verdict
 
-module _ (w : Text) (s out : List ℕ) (rd : Reading) (e : rd ≡ reading s) where
-  on : Verdict → Reply
-  on v = elim v [ Verdict.Accepted ↦ textOf w (rd .listing) | Verdict.Refused n k ↦ refuses n k ]
+module _ (d : Ready) where
+  abbrev lines-by : Verdict → List (List ℕ)
+  lines-by v = elim v [ Verdict.Accepted ↦ textLines (d .wanted) (d .listing) (d .encoding) | Verdict.Refused r k ↦ [] ]
 
-  as-read : (v : Verdict) → rd .verdict ≡ v → saying (on v) out ≡ saying (textReply w s) out
-  unfolding on
-  as-read v h = ap (λ (x : Reply). saying x out) (sym (read-first w s ∙ ap (λ (x : Reading). onReading x (textOf w)) (sym e) ∙ ap on h))
+  abbrev reply-by : Verdict → Reply
+  reply-by v = elim v [ Verdict.Accepted ↦ says (joinedLines (textLines (d .wanted) (d .listing) (d .encoding))) | Verdict.Refused r k ↦ refuses r k ]
 
-  pub not-read : (r : Refusal) (k : ℕ) → rd .verdict ≡ Verdict.Refused r k → (Said.Refused r k, out) ≡ saying (textReply w s) out
-  unfolding saying on
-  not-read r k v = as-read (Verdict.Refused r k) v
+  pub lines-accepted : d .verdict ≡ Verdict.Accepted → linesOf d ≡ textLines (d .wanted) (d .listing) (d .encoding)
+  unfolding linesOf
+  lines-accepted h = ap lines-by h
 
-  pub was-read : rd .verdict ≡ Verdict.Accepted → saying (textOf w (rd .listing)) out ≡ saying (textReply w s) out
-  unfolding on
-  was-read v = as-read Verdict.Accepted v
+  pub lines-refused : (r : Refusal) (k : ℕ) → d .verdict ≡ Verdict.Refused r k → linesOf d ≡ []
+  unfolding linesOf
+  lines-refused r k h = ap lines-by h
 
-pub read-sound : (s : List ℕ) (rd : Reading) → rd ≡ reading s → rd .verdict ≡ Verdict.Accepted → Sound (rd .listing)
-read-sound s rd e v = subst (λ (x : Reading). Sound (x .listing)) (sym e) (accepted-sound s (ap (λ (x : Reading). x .verdict) (sym e) ∙ v))
+  pub reply-accepted : d .verdict ≡ Verdict.Accepted → replyOf d ≡ says (joinedLines (linesOf d))
+  unfolding replyOf
+  reply-accepted h = ap reply-by h ∙ ap (λ (ls : List (List ℕ)). says (joinedLines ls)) (sym (lines-accepted h))
 
--- ---- the encoder's refusal
+  pub reply-refused : (r : Refusal) (k : ℕ) → d .verdict ≡ Verdict.Refused r k → replyOf d ≡ refuses r k
+  unfolding replyOf
+  reply-refused r k h = ap reply-by h
 
-refused-alike : (w : Text) (t : Listing) (r : Refusal) → coding t ≡ uncoded r → textOf w t ≡ refuses r 0
-unfolding textOf coverOf reportReply
-refused-alike Text.Report t r e = ap (reportOf t) e
-refused-alike Text.Cover t r e = ap (coverOf t) e
+  pub ready-pieces : Pieces (linesOf d)
+  unfolding linesOf
+  ready-pieces = go (d .verdict)
+    where
+      go : (v : Verdict) → Pieces (lines-by v)
+      go Verdict.Accepted = text-pieces (d .wanted) (d .listing) (d .encoding)
+      go (Verdict.Refused r k) = no-piece
 
-pub no-reply : (w : Text) (t : Listing) (s : Sound t) (out : List ℕ) (e : Encoding) → e ≡ encoded t → (r : Refusal) (k : ℕ) → e .verdict ≡ Verdict.Refused r k
-    → (Said.Refused r k, out) ≡ saying (textOf w t) out
-unfolding saying
-no-reply w t s out e h r k v =
-    ap (λ (x : ℕ). (Said.Refused r x, out)) (no-code t s e h r k v .1)
-    ∙ sym (ap (λ (x : Reply). saying x out) (refused-alike w t r (no-code t s e h r k v .0)))
+  pub few : Small (replyOf d) → Few d
+  unfolding replyOf linesOf joinedLines
+  few = go (d .verdict)
+    where
+      go : (v : Verdict) → Small (reply-by v) → length (joinedLines (lines-by v)) ≤ longest
+      go Verdict.Accepted h = h
+      go (Verdict.Refused r k) h = omega arith
 
--- ---- a text
+  -- ---- a refusal
 
-pub told-length : {d text a : List ℕ} {n : ℕ} → Wrote d 0 text n a → length text < room → n ≡ length text
-told-length w few = wrote-length w (omega arith)
+  module _ (r : Refusal) (k : ℕ) (h : d .verdict ≡ Verdict.Refused r k) (out : List ℕ) where
+    pub refused-said : (Said.Refused r k, out) ≡ saying (replyOf d) out
+    unfolding saying
+    refused-said = sym (ap (λ (x : Reply). saying x out) (reply-refused r k h))
 
-pub no-space : (text out : List ℕ) (n : ℕ) → length out < n → n ≡ length text → (Said.Refused NoRoom 0, out) ≡ saying (says text) out
-unfolding saying
-no-space text out n h e = rw (lt-leb (length text) (length out) (omega arith)) refl
+    pub refused-part : (from : ℕ) → (Said.Refused r k, out) ≡ sayingPart (replyOf d) from out
+    unfolding sayingPart
+    refused-part from = sym (ap (λ (x : Reply). sayingPart x from out) (reply-refused r k h))
 
-pub written : (text out after : List ℕ) (n : ℕ) → length text ≤ length out → length text < room → Wrote out 0 text n after → (Said.Text n, after) ≡ saying (says text) out
-unfolding saying
-written text out after n fits few w =
-    rw (le-leb (length text) (length out) fits) (ap₂ (λ (k : ℕ) (y : List ℕ). (Said.Text k, y)) (told-length w few) (wrote-all w fits))
+  -- ---- the whole text
 
--- ---- of a code
+  module _ (h : d .verdict ≡ Verdict.Accepted) (out : List ℕ) where
+    abbrev text : List ℕ
+    text = joinedLines (linesOf d)
 
-module _ (t : Listing) (e : Encoding) (w : Whole t e) where
-  is-fair : fair t ≡ true
-  is-fair = sound-fair t (w .sound)
+    pub no-space : ltb (length out) (length text) ≡ true → (Said.Refused NoRoom 0, out) ≡ saying (replyOf d) out
+    unfolding saying
+    no-space f =
+        let longer : length out < length text = ltb-true (length out) (length text) f in
+        sym (ap (λ (x : Reply). saying x out) (reply-accepted h) ∙ rw (lt-leb (length text) (length out) longer))
 
-  good : AllGood (t .head .states) (requirements t)
-  good = requirements-good t (w .sound)
+    pub whole-said : ltb (length out) (length text) ≡ false → (s : Lent) → s ≡ addedAll (linesOf d) (begun 0, out) → (Said.Text (s .0 .given), s .1) ≡ saying (replyOf d) out
+    unfolding saying
+    whole-said f s e =
+        let fits : length text ≤ length out = ltb-false (length out) (length text) f in
+        let m : Made text 0 out s = rw e (made (linesOf d) ready-pieces 0 out) in
+        let p : part (length out) 0 text ≡ text = whole-part (length out) (linesOf d) ready-pieces fits in
+        ap₂ (λ (n : ℕ) (o : List ℕ). (Said.Text n, o)) (m .given ∙ ap length p) (m .holds ∙ ap (λ (l : List ℕ). l ++ drop (length l) out) p)
+        ∙ sym (ap (λ (x : Reply). saying x out) (reply-accepted h) ∙ rw (le-leb (length text) (length out) fits))
 
-  few-asked : length (requirements t) ≤ most-asked
-  few-asked = most-requirements t (w .sound)
+    -- ---- a part
 
-  few-first : length (requirementsIn (firstOf (allFamilies t))) ≤ most-asked
-  few-first =
-      omega (arith, few-asked, ap length (ap requirementsIn (take-all most-words (allFamilies t) (few-all t (w .sound .table) (w .sound .asked))) ∙ all-are t is-fair))
+    module _ (from : ℕ) (s : Lent) (e : s ≡ addedAll (linesOf d) (begun from, out)) where
+      here : Made text from out s
+      here = rw e (made (linesOf d) ready-pieces from out)
 
-  few-unmet : length (unmet t (w .code .bits)) ≤ most-asked
-  unfolding unmet
-  few-unmet = omega (arith, few-asked, unmet-few 0 (t .head .states) (w .code .bits) (requirements t))
+      abbrev given : List ℕ
+      given = part (length out) from text
 
-  pub report-few : length (encodedReport (t .head .states) (allFamilies t) e) ≤ longest
-  report-few =
-      omega (
-        arith,
-        report-length (t .head .states) (allFamilies t) e (w .sound .head .few-states) few-first (w .narrow) (omega (arith, few-asked, w .holds .asked)) (omega (arith, few-unmet, w .holds .unmet))
-            (w .few-passes)
-            (w .few-looks),
-      )
+      abbrev gives : Bool → Said × List ℕ
+      gives b = cond b (Said.Text (length given), given ++ drop (length given) out) (Said.Refused NoRoom 0, out)
 
-  pub bounded : Bounded (t .head)
-  bounded = record { inputs = w .sound .head .few-inputs; outputs = w .sound .head .few-outputs }
+      by-room : (b : Bool) → getsOn (length out) from text ≡ b → gives b ≡ sayingPart (replyOf d) from out
+      unfolding sayingPart
+      by-room b q = sym (ap (λ (x : Reply). sayingPart x from out) (reply-accepted h) ∙ ap gives q)
 
-  pub cover-few : length (cover t (take (e .width) (e .bits))) ≤ longest
-  cover-few =
-      omega (arith, cover-length t (take (e .width) (e .bits)) bounded (omega (arith, rows-length t (w .sound), w .sound .few-rows)) (omega (arith, length-take (e .width) (e .bits), w .narrow)))
+      -- nothing was given, and something is left
+      pub part-waits : s .0 .given ≡ 0 → s .0 .full ≡ true → (Said.Refused NoRoom 0, s .1) ≡ sayingPart (replyOf d) from out
+      unfolding getsOn
+      part-waits z f =
+          let none : length given ≡ 0 = sym (here .given) ∙ z in
+          let left : length given < length (drop from text) = ltb-true (length given) (length (drop from text)) (sym (here .full) ∙ f) in
+          let stuck : getsOn (length out) from text ≡ false =
+          rw (lt-leb 1 (length given) (omega arith), lt-leb (length text) from (omega (arith, length-drop from text))) in
+          ap (λ (o : List ℕ). (Said.Refused NoRoom 0, o)) (here .holds ∙ ap (λ (l : List ℕ). l ++ drop (length l) out) (empty given none)) ∙ by-room false stuck
 
-  -- so there is always room
-  pub report-fits : length (encodedReport (t .head .states) (allFamilies t) e) < room
-  report-fits = omega (arith, report-few)
-
-  pub cover-fits : length (cover t (take (e .width) (e .bits))) < room
-  cover-fits = omega (arith, cover-few)
-
-  -- ---- what is said in a code
-
-  -- the report is never withheld
-  pub report-said : (k : Text) → k ≡ Text.Report → says (encodedReport (t .head .states) (allFamilies t) e) ≡ textOf k t
-  unfolding textOf reportReply
-  report-said k h =
-      ap says (same-report t is-fair good (w .sound .table) (w .sound .asked) (w .code) e (w .holds))
-      ∙ sym (ap (λ (x : Text). textOf x t) h ∙ ap (reportOf t) (w .is))
-
-  abbrev unmetFirst : ℕ
-  unmetFirst = length (unmetFrom 0 (t .head .states) (take (e .width) (e .bits)) (pairsAndGroups t))
-
-  cover-as : (b : Bool) → leb 1 unmetFirst ≡ b → coverOf t (coding t) ≡ cond b (refuses Unmet 0) (says (cover t (take (e .width) (e .bits))))
-  unfolding coverOf
-  cover-as b q =
-      ap (coverOf t) (w .is)
-      ∙ ap (λ (x : List ℕ). cond (leb 1 (length (unmetFrom 0 (t .head .states) x (pairsAndGroups t)))) (refuses Unmet 0) (says (cover t x))) (sym (w .holds .bits))
-      ∙ ap (λ (x : Bool). cond x (refuses Unmet 0) (says (cover t (take (e .width) (e .bits))))) q
-
-  -- the cover is, by whether a pair or a group requirement is unmet
-  pub cover-said : (k : Text) (b : Bool) → k ≡ Text.Cover → b ≡ anyUnmet (firstFamilies t) e → cond b (refuses Unmet 0) (says (cover t (take (e .width) (e .bits)))) ≡ textOf k t
-  unfolding textOf
-  cover-said k b h q =
-      sym (ap (λ (x : Text). textOf x t) h ∙ cover-as b (sym (q ∙ same-judged t is-fair good e)))
-
-  -- ---- what each width buys
-
-  pub widths-few : (first : ℕ) → length (encodedWidths (allFamilies t) first e) ≤ longest
-  widths-few first = omega (arith, widths-length (allFamilies t) first e (w .narrow) few-first)
+      pub part-said : (s .0 .given ≡ 0 → s .0 .full ≡ false) → (Said.Text (s .0 .given), s .1) ≡ sayingPart (replyOf d) from out
+      unfolding getsOn
+      part-said g = ap₂ (λ (n : ℕ) (o : List ℕ). (Said.Text n, o)) (here .given) (here .holds) ∙ by-room true (go (leb 1 (length given)) refl)
+        where
+          go : (b : Bool) → leb 1 (length given) ≡ b → (b || leb (length text) from) ≡ true
+          go true q = refl
+          go false q =
+              let none : length given < 1 = leb-false 1 (length given) q in
+              let over : length (drop from text) ≤ length given = ltb-false (length given) (length (drop from text)) (sym (here .full) ∙ g (here .given ∙ omega arith)) in
+              le-leb (length text) from (omega (arith, length-drop from text))

@@ -1,30 +1,19 @@
-// What is said of any bytes: the report, the cover or what each width buys, written where there is room, or a refusal with its line.
+// What is said of any bytes: the report, the cover or what each width buys, whole or in parts, or a refusal with its line.
 ghost use mathlib.Core.Path.{_≡_};
-ghost use Prim.Native.Nat.{_<_};
-ghost use lib.ListN.{length, take};
-ghost use Rattle.rules.specs.Cover.{cover};
-ghost use Rattle.rules.specs.Answers.{says};
-ghost use Rattle.write_report.specs.Report.{encodedReport};
-ghost use Rattle.rules.specs.Widths.{widths, widthsReply};
-ghost use Rattle.rules.specs.Limits.{most-bits};
-ghost use Rattle.write_widths.specs.Widths.{encodedWidths};
-ghost use Rattle.host_replies.specs.Saying.{room, saying, Whole, textOf, textReply, replyTo};
+ghost use lib.Dec.{ltb};
+ghost use lib.ListN.{length};
+ghost use Rattle.rules.specs.Report.{joinedLines};
+ghost use Rattle.write_parts.specs.Parts.{addedAll};
+ghost use Rattle.host_replies.specs.Ready.{widthFor, verdictOn, ready, linesOf, replyOf, Few};
+ghost use Rattle.host_replies.specs.Saying.{saying, sayingPart, replyTo};
+use rules::Encoding;
+use rules::Listing;
+use rules::Verdict;
+use write_parts::Part;
+use write_texts::Wanted;
 
 // So many bytes of room are always enough.
-pub const ROOM: usize = 100000;
-
-// What is asked for.
-pub enum Wanted {
-    Report,
-    Cover,
-    Widths,
-}
-
-// What is written in the listing's own code.
-pub enum Text {
-    Report,
-    Cover,
-}
+pub const ROOM: usize = 124799;
 
 // A text of that many bytes, or a refusal and its line.
 pub enum Said {
@@ -32,110 +21,101 @@ pub enum Said {
     Refused(rules::Refusal, usize),
 }
 
-// The report, where it fits. Where that is not plain, a first writing into one byte tells how long it is.
-fn say_report(n: usize, e: rules::Encoding, fs: &[u64], out: &mut [u8]) -> Said
-    requires { ⌜ length (encodedReport n (now fs) e) < room ⌝ }
-    ensures { λ r. ⌜ (r, now (out .exit)) ≡ saying (says (encodedReport n (now (fs .entry)) e)) (now (out .entry)) ⌝ }
-{
-    if out.len() < ROOM {
-        let mut none = [0u8; 1];
-        if out.len() < write_report::put_report(&mut none, n, e, fs) {
-            return Said::Refused(rules::Refusal::NoRoom, 0);
-        }
-    }
-    Said::Text(write_report::put_report(out, n, e, fs))
+// A listing with its code, from which what is wanted can be written, whole or in parts, as often as one likes; or why it is refused.
+pub struct Ready {
+    pub wanted: Wanted,
+    pub verdict: Verdict,
+    pub listing: Listing,
+    pub encoding: Encoding,
 }
 
-// The cover, where it fits.
-fn say_cover(t: rules::Listing, e: rules::Encoding, out: &mut [u8]) -> Said
-    requires { ⌜ Whole t e ⌝ }
-    ensures { λ r. ⌜ (r, now (out .exit)) ≡ saying (says (cover t (take (e .width) (e .bits)))) (now (out .entry)) ⌝ }
+// The width that a listing is coded with: what each width buys is seen in the widest code, whatever the listing's own.
+fn width_for(wanted: Wanted, width: usize) -> usize
+    ensures { λ r. ⌜ r ≡ widthFor wanted width ⌝ }
 {
-    let bits = e.bits;
-    if out.len() < ROOM {
-        let mut none = [0u8; 1];
-        if out.len() < write_cover::put_cover(&mut none, t, e.width, bits) {
-            return Said::Refused(rules::Refusal::NoRoom, 0);
-        }
-    }
-    Said::Text(write_cover::put_cover(out, t, e.width, bits))
-}
-
-// What is said in a code. The pairs and the groups stand before the dichotomies: where one of them is unmet a cover is refused 9, and a report never is.
-fn say_in(text: Text, t: rules::Listing, e: rules::Encoding, out: &mut [u8]) -> Said
-    requires { ⌜ Whole t e ⌝ }
-    ensures { λ r. ⌜ (r, now (out .exit)) ≡ saying (textOf text t) (now (out .entry)) ⌝ }
-{
-    let mut fs = [0u64; code_drawing::ALL_WORDS];
-    let words = code_drawing::draw_all(t, &mut fs);
-    match text {
-        Text::Report => say_report(t.head.states, e, &fs[..words], out),
-        Text::Cover => {
-            let first = words - 3 * t.dichotomies;
-            if code_judging::is_any_unmet(e, &fs[..first]) {
-                return Said::Refused(rules::Refusal::Unmet, 0);
-            }
-            say_cover(t, e, out)
-        }
+    match wanted {
+        Wanted::Report => width,
+        Wanted::Cover => width,
+        Wanted::Widths => rules::MOST_BITS,
     }
 }
 
-// What is said of any bytes in their own code. The listing stays where it was read, and is handed on from there.
-fn say_text(text: Text, listing: &[u8], out: &mut [u8]) -> Said
-    ensures { λ r. ⌜ (r, now (out .exit)) ≡ saying (textReply text (now (listing .entry))) (now (out .entry)) ⌝ }
+// Whether what is wanted is refused: the reader's refusal comes first, then the encoder's, and then, of a cover, 9.
+fn verdict_on(wanted: Wanted, read: Verdict, t: Listing, e: Encoding) -> Verdict
+    ensures { λ r. ⌜ r ≡ verdictOn wanted read t e ⌝ }
 {
-    let read = read_listing::read_listing(listing);
-    let verdict = read.verdict;
-    match verdict {
-        rules::Verdict::Refused(r, line) => Said::Refused(r, line),
-        rules::Verdict::Accepted => {
-            let e = code_building::encode(read.listing);
+    match read {
+        Verdict::Refused(r, line) => Verdict::Refused(r, line),
+        Verdict::Accepted => {
             let coded = e.verdict;
             match coded {
-                rules::Verdict::Refused(r, line) => Said::Refused(r, line),
-                rules::Verdict::Accepted => say_in(text, read.listing, e, out),
+                Verdict::Refused(r, line) => Verdict::Refused(r, line),
+                Verdict::Accepted => write_texts::verdict_of(wanted, t, e),
             }
         }
     }
 }
 
-// What each width buys, where it fits.
-fn say_widths_in(e: rules::Encoding, fs: &[u64], first: usize, out: &mut [u8]) -> Said
-    requires { ⌜ length (encodedWidths (now fs) first e) < room ⌝ }
-    ensures { λ r. ⌜ (r, now (out .exit)) ≡ saying (says (encodedWidths (now (fs .entry)) first e)) (now (out .entry)) ⌝ }
+// Any bytes, read and coded once for what is wanted.
+pub fn prepare(wanted: Wanted, listing: &[u8]) -> Ready
+    ensures { λ r. ⌜ r ≡ ready wanted (now (listing .entry)) ⌝ }
 {
-    if out.len() < ROOM {
-        let mut none = [0u8; 1];
-        if out.len() < write_widths::put_widths(&mut none, e, fs, first) {
-            return Said::Refused(rules::Refusal::NoRoom, 0);
+    let read = read_listing::read_listing(listing);
+    let said = read.verdict;
+    let mut t = read.listing;
+    let width = width_for(wanted, t.head.width);
+    t.head.width = width;
+    let e = code_building::encode(t);
+    let verdict = verdict_on(wanted, said, t, e);
+    Ready {
+        wanted,
+        verdict,
+        listing: t,
+        encoding: e,
+    }
+}
+
+// The lines of what is wanted, added to a part; where it is refused there are none.
+pub fn add_text(ready: Ready, part: Part, out: &mut [u8]) -> Part
+    ensures { λ r. ⌜ (r, now (out .exit)) ≡ addedAll (linesOf ready) (part, now (out .entry)) ⌝ }
+{
+    let verdict = ready.verdict;
+    let wanted = ready.wanted;
+    match verdict {
+        Verdict::Refused(_, _) => part,
+        Verdict::Accepted => {
+            write_texts::add_lines(wanted, ready.listing, ready.encoding, part, out)
         }
     }
-    Said::Text(write_widths::put_widths(out, e, fs, first))
 }
 
-// What each width buys a listing that has the greatest width, in its code.
-fn say_widths_of(t: rules::Listing, e: rules::Encoding, out: &mut [u8]) -> Said
-    requires { ⌜ Whole t e × (t .head .width ≡ most-bits) ⌝ }
-    ensures { λ r. ⌜ (r, now (out .exit)) ≡ saying (says (widths t)) (now (out .entry)) ⌝ }
+// Whether the text is longer than so many bytes. Where that is not plain, the text is measured: with those passed over, and no room, a line is left.
+fn is_longer(ready: Ready, len: usize) -> bool
+    requires { ⌜ Few ready ⌝ }
+    ensures { λ r. ⌜ r ≡ ltb len (length (joinedLines (linesOf ready))) ⌝ }
 {
-    let mut fs = [0u64; code_drawing::ALL_WORDS];
-    let words = code_drawing::draw_all(t, &mut fs);
-    let first = words - 3 * t.dichotomies;
-    say_widths_in(e, &fs[..words], first, out)
+    if ROOM <= len {
+        return false;
+    }
+    let mut none = [0u8; 1];
+    let measured = add_text(ready, write_parts::begin(len), &mut none[..0]);
+    measured.full
 }
 
-// What each width buys, of any bytes. The listing's own width is not used: it is coded as wide as a code can be.
-fn say_widths(listing: &[u8], out: &mut [u8]) -> Said
-    ensures { λ r. ⌜ (r, now (out .exit)) ≡ saying (widthsReply (now (listing .entry))) (now (out .entry)) ⌝ }
+// The whole text, where it fits.
+fn say_whole(ready: Ready, out: &mut [u8]) -> Said
+    requires { ⌜ Few ready ⌝ }
+    ensures { λ r. ⌜ (r, now (out .exit)) ≡ saying (replyOf ready) (now (out .entry)) ⌝ }
 {
-    let mut read = read_listing::read_listing(listing);
-    let verdict = read.verdict;
+    let verdict = ready.verdict;
     match verdict {
-        rules::Verdict::Refused(r, line) => Said::Refused(r, line),
-        rules::Verdict::Accepted => {
-            read.listing.head.width = rules::MOST_BITS;
-            let e = code_building::encode(read.listing);
-            say_widths_of(read.listing, e, out)
+        Verdict::Refused(r, line) => Said::Refused(r, line),
+        Verdict::Accepted => {
+            if is_longer(ready, out.len()) {
+                return Said::Refused(rules::Refusal::NoRoom, 0);
+            }
+            let written = add_text(ready, write_parts::begin(0), out);
+            Said::Text(written.given)
         }
     }
 }
@@ -144,9 +124,31 @@ fn say_widths(listing: &[u8], out: &mut [u8]) -> Said
 pub fn say(wanted: Wanted, listing: &[u8], out: &mut [u8]) -> Said
     ensures { λ r. ⌜ (r, now (out .exit)) ≡ saying (replyTo wanted (now (listing .entry))) (now (out .entry)) ⌝ }
 {
-    match wanted {
-        Wanted::Report => say_text(Text::Report, listing, out),
-        Wanted::Cover => say_text(Text::Cover, listing, out),
-        Wanted::Widths => say_widths(listing, out),
+    say_whole(prepare(wanted, listing), out)
+}
+
+// The whole lines of the text that fit, from byte `from` on; none where there is no more, and 10 where the next does not fit.
+pub fn say_from(ready: Ready, from: usize, out: &mut [u8]) -> Said
+    ensures { λ r. ⌜ (r, now (out .exit)) ≡ sayingPart (replyOf ready) from (now (out .entry)) ⌝ }
+{
+    let verdict = ready.verdict;
+    match verdict {
+        Verdict::Refused(r, line) => Said::Refused(r, line),
+        Verdict::Accepted => {
+            let written = add_text(ready, write_parts::begin(from), out);
+            if written.given == 0 {
+                if written.full {
+                    return Said::Refused(rules::Refusal::NoRoom, 0);
+                }
+            }
+            Said::Text(written.given)
+        }
     }
+}
+
+// A part of what is said of any bytes.
+pub fn say_part(wanted: Wanted, listing: &[u8], from: usize, out: &mut [u8]) -> Said
+    ensures { λ r. ⌜ (r, now (out .exit)) ≡ sayingPart (replyTo wanted (now (listing .entry))) from (now (out .entry)) ⌝ }
+{
+    say_from(prepare(wanted, listing), from, out)
 }

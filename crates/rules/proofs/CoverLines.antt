@@ -1,66 +1,84 @@
--- The lines of a cover's text.
+-- The lines of a cover's text: each ends in LF and has no other, so the text parts into them.
 use mathlib.Core.Path.{_≡_, refl, ap, _∙_}
-use mathlib.Core.List.{List, [], _∷_, _++_, map, append-assoc}
+use mathlib.Core.List.{List, [], _∷_, _++_, map}
 use Prim.Native.Nat.{ℕ, _+_}
 use native.Mathlib.Omega.{arith}
 use lib.ListN.{length}
 use Rattle.rules.specs.Text.{bytes, lf, space, dot, split, linesOf, decimal}
 use Rattle.rules.specs.Listing.{rowsOf}
 use Rattle.rules.specs.Report.{joinedLines}
-use Rattle.rules.specs.Cover.{coverRow, cover}
+use Rattle.rules.specs.Cover.{countedLine, coverRow, coverLines, cover}
 use Rattle.rules.specs.declared.Row.{Row}
 use Rattle.rules.specs.declared.Listing.{Listing}
-use Rattle.rules.proofs.Fields.{Without, more, split-part}
+use Rattle.rules.proofs.Fields.{Without, more}
 use Rattle.rules.proofs.Decimal.{decimal-without}
 use Rattle.rules.proofs.Fires.{row-without}
+use Rattle.rules.proofs.Ended.{Ended, last, then, ended-behind, AllEnded, no-line, line, ended-append, ended-map, lines-first}
 
--- `.i 3`: a dot, a letter, a space and a number (the letters `i`, `o`, `p` are 105, 111, 112)
-marked : (c v : ℕ) → (c ≡ lf → ⊥) → Without lf (dot ∷ (c ∷ (space ∷ decimal v)))
+-- a mark is a dot, a letter and a space (the letters `i`, `o`, `p`, `e` are 105, 111, 112, 101)
+abbrev mark : ℕ → List ℕ
+mark c = dot ∷ (c ∷ (space ∷ []))
+
+-- `.i 3`
+marked : (c v : ℕ) → (c ≡ lf → ⊥) → Without lf (mark c ++ decimal v)
 marked c v o = more {x = dot} (λ e. omega arith) (more o (more {x = space} (λ e. omega arith) (decimal-without lf (omega arith) v)))
 
--- lines, one behind the other, each ended by LF
-joined-lines : (f : Row → List ℕ) → ((r : Row) → Without lf (f r)) → (rows : List Row) (rest : List ℕ)
-    → linesOf (joinedLines (map (λ r. f r ++ (lf ∷ [])) rows) ++ rest) ≡ map f rows ++ linesOf rest
-unfolding joinedLines
-joined-lines f h [] rest = refl
-joined-lines f h (r ∷ rs) rest =
-    let later : List ℕ = joinedLines (map (λ r. f r ++ (lf ∷ [])) rs) in
-    ap linesOf (append-assoc (f r ++ (lf ∷ [])) later rest ∙ append-assoc (f r) (lf ∷ []) (later ++ rest))
-    ∙ split-part lf (f r) (later ++ rest) (h r)
-    ∙ ap {B = List (List ℕ)} (λ ls. f r ∷ ls) (joined-lines f h rs rest)
+-- ---- each is ended
 
-last-line : linesOf (bytes ".e\n") ≡ bytes ".e" ∷ ([] ∷ [])
-unfolding split
+counted-ended : (c v : ℕ) → (c ≡ lf → ⊥) → Ended (countedLine (mark c) v)
+counted-ended c v o = ended-behind (marked c v o) last
+
+end-ended : Ended (bytes ".e\n")
+end-ended = then {x = dot} (λ e. omega arith) (then {x = 101} (λ e. omega arith) last)
+
+pub cover-ended : (t : Listing) (bits : List ℕ) → AllEnded (coverLines t bits)
+unfolding coverLines
+cover-ended t bits =
+    line (counted-ended 105 (t .head .inputs + length bits) (λ e. omega arith))
+    (line (counted-ended 111 (length bits + t .head .outputs) (λ e. omega arith))
+    (line (counted-ended 112 (length (rowsOf t)) (λ e. omega arith))
+    (ended-append (ended-map (λ r. coverRow (t .head) bits r ++ (lf ∷ [])) (λ r. ended-behind (row-without (t .head) bits r) last) (rowsOf t))
+    (line end-ended no-line))))
+
+-- ---- so the text parts into them
+
+counted-first : (c v : ℕ) → (c ≡ lf → ⊥) → (rest : List ℕ) → linesOf (countedLine (mark c) v ++ rest) ≡ (mark c ++ decimal v) ∷ linesOf rest
+counted-first c v o rest = lines-first (countedLine (mark c) v) rest (mark c ++ decimal v) refl (marked c v o)
+
+rows-first : (f : Row → List ℕ) → ((r : Row) → Without lf (f r)) → (rows : List Row) (ls : List (List ℕ))
+    → linesOf (joinedLines (map (λ r. f r ++ (lf ∷ [])) rows ++ ls)) ≡ map f rows ++ linesOf (joinedLines ls)
+unfolding joinedLines
+rows-first f h [] ls = refl
+rows-first f h (r ∷ rs) ls =
+    lines-first (f r ++ (lf ∷ [])) (joinedLines (map (λ r. f r ++ (lf ∷ [])) rs ++ ls)) (f r) refl (h r)
+    ∙ ap {B = List (List ℕ)} (λ ks. f r ∷ ks) (rows-first f h rs ls)
+
+last-line : linesOf (joinedLines (bytes ".e\n" ∷ [])) ≡ bytes ".e" ∷ ([] ∷ [])
+unfolding split joinedLines
 last-line = refl
 
--- `.i` (i + bits), `.o` (bits + o), `.p` (rows), a line per row in order, `.e`, and nothing behind the last LF
-abbrev pub coverLines : Listing → List ℕ → List (List ℕ)
-coverLines t bits =
+-- the lines without their LF, and nothing behind the last
+abbrev pub coverBodies : Listing → List ℕ → List (List ℕ)
+coverBodies t bits =
     (bytes ".i " ++ decimal (t .head .inputs + length bits))
     ∷ ((bytes ".o " ++ decimal (length bits + t .head .outputs))
     ∷ ((bytes ".p " ++ decimal (length (rowsOf t)))
     ∷ (map (coverRow (t .head) bits) (rowsOf t) ++ (bytes ".e" ∷ ([] ∷ [])))))
 
-pub cover-lines : (t : Listing) (bits : List ℕ) → linesOf (cover t bits) ≡ coverLines t bits
-unfolding cover
+pub cover-lines : (t : Listing) (bits : List ℕ) → linesOf (cover t bits) ≡ coverBodies t bits
+unfolding cover coverLines joinedLines
 cover-lines t bits =
-    split-part lf i (o ++ (lf ∷ (p ++ (lf ∷ rows)))) (marked 105 (t .head .inputs + length bits) (λ e. omega arith))
-    ∙ ap {B = List (List ℕ)} (λ ls. i ∷ ls)
-    (split-part lf o (p ++ (lf ∷ rows)) (marked 111 (length bits + t .head .outputs) (λ e. omega arith))
-    ∙ ap {B = List (List ℕ)} (λ ls. o ∷ ls)
-    (split-part lf p rows (marked 112 (length (rowsOf t)) (λ e. omega arith))
-    ∙ ap {B = List (List ℕ)} (λ ls. p ∷ ls)
-    (joined-lines (coverRow (t .head) bits) (row-without (t .head) bits) (rowsOf t) (bytes ".e\n")
+    counted-first 105 (t .head .inputs + length bits) (λ e. omega arith) (countedLine (bytes ".o ") outs ++ (countedLine (bytes ".p ") (length (rowsOf t)) ++ rows))
+    ∙ ap {B = List (List ℕ)} (λ ls. (bytes ".i " ++ decimal (t .head .inputs + length bits)) ∷ ls)
+    (counted-first 111 outs (λ e. omega arith) (countedLine (bytes ".p ") (length (rowsOf t)) ++ rows)
+    ∙ ap {B = List (List ℕ)} (λ ls. (bytes ".o " ++ decimal outs) ∷ ls)
+    (counted-first 112 (length (rowsOf t)) (λ e. omega arith) rows
+    ∙ ap {B = List (List ℕ)} (λ ls. (bytes ".p " ++ decimal (length (rowsOf t))) ∷ ls)
+    (rows-first (coverRow (t .head) bits) (row-without (t .head) bits) (rowsOf t) (bytes ".e\n" ∷ [])
     ∙ ap (λ (ls : List (List ℕ)). map (coverRow (t .head) bits) (rowsOf t) ++ ls) last-line)))
   where
-    i : List ℕ
-    i = bytes ".i " ++ decimal (t .head .inputs + length bits)
-
-    o : List ℕ
-    o = bytes ".o " ++ decimal (length bits + t .head .outputs)
-
-    p : List ℕ
-    p = bytes ".p " ++ decimal (length (rowsOf t))
+    outs : ℕ
+    outs = length bits + t .head .outputs
 
     rows : List ℕ
-    rows = joinedLines (map (λ r. coverRow (t .head) bits r ++ (lf ∷ [])) (rowsOf t)) ++ bytes ".e\n"
+    rows = joinedLines (map (λ r. coverRow (t .head) bits r ++ (lf ∷ [])) (rowsOf t) ++ (bytes ".e\n" ∷ []))

@@ -117,8 +117,8 @@ cases =
     ∷ looked "+++++" (0 ∷ 1 ∷ 2 ∷ 3 ∷ 4 ∷ []) (1 ∷ 1 ∷ 0 ∷ 1 ∷ 1 ∷ [])
     ∷ reports p9 "NO 6 3\n"
     ∷ covers p9 "NO 6 3\n"
-    ∷ reads "MC 32 1 1 32" (record { states = 32; inputs = 1; outputs = 1; width = 32 })
-    ∷ reports "MC 33 1 1 0\n" "NO 2 1\n"
+    ∷ reads "MC 64 1 1 64" (record { states = 64; inputs = 1; outputs = 1; width = 64 })
+    ∷ reports "MC 65 1 1 0\n" "NO 2 1\n"
     ∷ []
 
 -- ---- what a case states

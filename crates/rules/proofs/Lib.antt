@@ -25,10 +25,12 @@ pub mod Characters
 pub mod SoundLines
 pub mod Sound
 pub mod Most
+pub mod Ended
+pub mod ReportLines
 pub mod CoverLines
 pub mod Written
-pub mod ReportLines
 pub mod Reported
+pub mod Parts
 pub mod Wider
 pub mod WiderReports
 pub mod Good

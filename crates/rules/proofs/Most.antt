@@ -1,4 +1,4 @@
--- There are at most 496 + 3,840 + 64 = 4,400 requirements.
+-- There are at most 2,016 + 7,936 + 64 = 10,016 requirements.
 use mathlib.Core.Path.{_≡_, refl, ap}
 use mathlib.Core.Bool.{Bool, true, false, _&&_, not, cond}
 use mathlib.Core.List.{List, [], _∷_, map}

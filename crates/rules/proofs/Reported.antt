@@ -27,7 +27,8 @@ use Rattle.rules.proofs.Judged.{FirstMeets, MetByNone, first-or-none, b
 use Rattle.rules.proofs.Asked.{state-listed}
 use Rattle.rules.proofs.Unmet.{unmet-listed}
 use Rattle.rules.proofs.Written.{says-same, says-not}
-use Rattle.rules.proofs.ReportLines.{HasLine, report-has}
+use Rattle.rules.proofs.Ended.{HasLine}
+use Rattle.rules.proofs.ReportLines.{report-has}
 
 -- the line of the requirement r by the bit k, and of r unmet
 abbrev pub byText : ℕ → ℕ → List ℕ

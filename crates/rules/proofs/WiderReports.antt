@@ -11,7 +11,7 @@ use Rattle.rules.specs.Report.{stateLine}
 use Rattle.rules.specs.Answers.{says, reportReply}
 use Rattle.rules.specs.declared.Listing.{Listing}
 use Rattle.rules.specs.declared.Requirement.{Requirement}
-use Rattle.rules.proofs.ReportLines.{HasLine}
+use Rattle.rules.proofs.Ended.{HasLine}
 use Rattle.rules.proofs.Reported.{byText, unText, Tells, reported}
 use Rattle.rules.proofs.Unmet.{unmet-listed}
 use Rattle.rules.proofs.Wider.{Alike, Wider, same-states, same-asked, wider}

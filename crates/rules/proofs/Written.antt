@@ -31,7 +31,7 @@ use Rattle.rules.proofs.Fires.{outputSide, cover-fields, row-fires, nex
 use Rattle.rules.proofs.Granted.{distinct-codes, met-groups}
 use Rattle.rules.proofs.SoundLines.{SoundRow}
 use Rattle.rules.proofs.Sound.{Sound, rows-length, row-of, accepted-sound}
-use Rattle.rules.proofs.CoverLines.{coverLines, cover-lines}
+use Rattle.rules.proofs.CoverLines.{coverBodies, cover-lines}
 
 -- l is the line of the row r in a cover
 pub record LineOf (h : Head) (bits : List ℕ) (r : Row) (l : List ℕ) : Type 0 where
@@ -46,7 +46,7 @@ pub record LineOf (h : Head) (bits : List ℕ) (r : Row) (l : List ℕ) : Type 0
 -- text is a cover of the listing t by the bits of a code
 pub record CoverOf (t : Listing) (bits : List ℕ) (text : List ℕ) : Type 0 where
   pub distinct : Distinct (t .head .states) bits
-  pub lines : linesOf text ≡ coverLines t bits
+  pub lines : linesOf text ≡ coverBodies t bits
   -- row k stands on line 3 + k, from 0
   pub rows : (k : ℕ) → k < t .rows → LineOf (t .head) bits (getD (rowsOf t) k noRow) (getD (linesOf text) (3 + k) [])
 
@@ -84,8 +84,8 @@ at-map f (x ∷ xs) rest zero d e h = refl
 at-map f (x ∷ xs) rest (suc k) d e h = at-map f xs rest k d e (omega arith)
 
 row-line : (t : Listing) (bits : List ℕ) (k : ℕ) → k < length (rowsOf t)
-    → getD (coverLines t bits) (3 + k) [] ≡ coverRow (t .head) bits (getD (rowsOf t) k noRow)
-row-line t bits k h = ap (λ (j : ℕ). getD (coverLines t bits) j []) three ∙ at-map (coverRow (t .head) bits) (rowsOf t) (bytes ".e" ∷ ([] ∷ [])) k noRow [] h
+    → getD (coverBodies t bits) (3 + k) [] ≡ coverRow (t .head) bits (getD (rowsOf t) k noRow)
+row-line t bits k h = ap (λ (j : ℕ). getD (coverBodies t bits) j []) three ∙ at-map (coverRow (t .head) bits) (rowsOf t) (bytes ".e" ∷ ([] ∷ [])) k noRow [] h
   where
     three : 3 + k ≡ suc (suc (suc k))
     three = omega arith
@@ -96,7 +96,7 @@ cover-of t bits text sound none e = record { distinct = distinct; lines = lines;
     distinct : Distinct (t .head .states) bits
     distinct = distinct-codes t bits none
 
-    lines : linesOf text ≡ coverLines t bits
+    lines : linesOf text ≡ coverBodies t bits
     lines = ap linesOf (sym e) ∙ cover-lines t bits
 
     rows : (k : ℕ) → k < t .rows → LineOf (t .head) bits (getD (rowsOf t) k noRow) (getD (linesOf text) (3 + k) [])

@@ -54,12 +54,12 @@ pub data Coding : Type 0 where
   coded : Code → Coding
   uncoded : Refusal → Coding
 
--- width 0, and 32 bits leave something unmet: 7
+-- width 0, and 64 bits leave something unmet: 7
 abbrev pub wideEnough : Listing → Code → Coding
 unfolding unmet
 wideEnough t c = cond (eqb (t .head .width) 0 && not (eqb (length (unmet t (c .bits))) 0)) (uncoded TooWide) (coded c)
 
--- width 0: go on until every requirement is met; width 1..32: stop at that many bits
+-- width 0: go on until every requirement is met; width 1..64: stop at that many bits
 unfoldable pub coding : Listing → Coding
 unfolding build unmet requirements
 coding t = wideEnough t (build (cond (eqb (t .head .width) 0) most-bits (t .head .width)) (t .head .states) (requirements t))

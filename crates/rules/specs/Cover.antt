@@ -47,15 +47,22 @@ coverRow h bits r =
     ++ (space ∷ (digits (nextCode bits (r .next))
     ++ map (outputAt r) (statesFrom 0 (h .outputs)))))
 
+-- a mark, and a number of the whole cover
+abbrev pub countedLine : List ℕ → ℕ → List ℕ
+countedLine mark v = mark ++ (decimal v ++ (lf ∷ []))
+
 -- `.i` (i + bits), `.o` (bits + o), `.p` (rows), a line per row in order, `.e`
+unfoldable pub coverLines : Listing → List ℕ → List (List ℕ)
+unfolding coverRow decimal
+coverLines t bits =
+    countedLine (bytes ".i ") (t .head .inputs + length bits)
+    ∷ (countedLine (bytes ".o ") (length bits + t .head .outputs)
+    ∷ (countedLine (bytes ".p ") (length (rowsOf t))
+    ∷ (map (λ r. coverRow (t .head) bits r ++ (lf ∷ [])) (rowsOf t) ++ (bytes ".e\n" ∷ []))))
+
 unfoldable pub cover : Listing → List ℕ → List ℕ
-unfolding coverRow joinedLines decimal
-cover t bits =
-    bytes ".i " ++ (decimal (t .head .inputs + length bits)
-    ++ (bytes "\n.o " ++ (decimal (length bits + t .head .outputs)
-    ++ (bytes "\n.p " ++ (decimal (length (rowsOf t))
-    ++ (lf ∷ (joinedLines (map (λ r. coverRow (t .head) bits r ++ (lf ∷ [])) (rowsOf t))
-    ++ bytes ".e\n")))))))
+unfolding coverLines joinedLines
+cover t bits = joinedLines (coverLines t bits)
 
 -- ---- when a row fires
 

@@ -11,5 +11,6 @@ pub mod Code
 pub mod Report
 pub mod Cover
 pub mod Answers
+pub mod Parts
 pub mod Widths
 pub mod Trial

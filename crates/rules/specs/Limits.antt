@@ -1,8 +1,8 @@
--- The limits that 01 sets, each under one name.
+-- The limits that 01 sets, with the states and the width of 02, request 09, each under one name.
 use Prim.Native.Nat.{ℕ}
 
 abbrev pub most-states : ℕ
-most-states = 32
+most-states = 64
 
 abbrev pub most-inputs : ℕ
 most-inputs = 16
@@ -12,7 +12,7 @@ most-outputs = 32
 
 -- the widest code
 abbrev pub most-bits : ℕ
-most-bits = 32
+most-bits = 64
 
 abbrev pub most-rows : ℕ
 most-rows = 128
@@ -20,9 +20,9 @@ most-rows = 128
 abbrev pub most-dichotomies : ℕ
 most-dichotomies = 64
 
--- pairs, groups and dichotomies together: 496 + 3,840 + 64
+-- pairs, groups and dichotomies together: 2,016 + 7,936 + 64
 abbrev pub most-asked : ℕ
-most-asked = 4400
+most-asked = 10016
 
 abbrev pub most-bytes : ℕ
 most-bytes = 65536

@@ -19,7 +19,7 @@ use Rattle.rules.specs.declared.EndLine.{EndLine}
 
 -- ---- `MC n i o w`
 
--- states 1..32, inputs 1..16, outputs 1..32, width 0..32
+-- states 1..64, inputs 1..16, outputs 1..32, width 0..64
 unfoldable pub headNumbers : ℕ → ℕ → ℕ → ℕ → HeadLine
 headNumbers n i o w =
     cond (leb 1 n && leb n most-states && (leb 1 i && leb i most-inputs) && (leb 1 o && leb o most-outputs) && leb w most-bits)

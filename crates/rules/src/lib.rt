@@ -4,20 +4,20 @@ ghost use Rattle.rules.specs.Refusals.{number};
 ghost use Rattle.rules.specs.Requirements.{isBy};
 
 // The limits of a listing and of a trial record.
-pub const MOST_STATES: usize = 32;
+pub const MOST_STATES: usize = 64;
 
 pub const MOST_INPUTS: usize = 16;
 
 pub const MOST_OUTPUTS: usize = 32;
 
-pub const MOST_BITS: usize = 32;
+pub const MOST_BITS: usize = 64;
 
 pub const MOST_ROWS: usize = 128;
 
 pub const MOST_DICHOTOMIES: usize = 64;
 
 // Pairs, groups and dichotomies together.
-pub const MOST_ASKED: usize = 4400;
+pub const MOST_ASKED: usize = 10016;
 
 pub const MOST_BYTES: usize = 65536;
 

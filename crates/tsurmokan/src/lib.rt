@@ -4,6 +4,7 @@ mod records;
 
 ghost use mathlib.Core.Path.{_≡_};
 ghost use Rattle.rules.specs.Answers.{reportReply, coverReply, answered};
+ghost use Rattle.rules.specs.Parts.{answeredPart};
 ghost use Rattle.rules.specs.Widths.{widthsReply};
 
 // The report.
@@ -11,7 +12,7 @@ ghost use Rattle.rules.specs.Widths.{widthsReply};
 pub extern "C" fn tsurmokan_report(listing: &[u8], out: &mut [u8]) -> i64
     ensures { λ r. ⌜ (r, now (out .exit)) ≡ answered (reportReply (now (listing .entry))) (now (out .entry)) ⌝ }
 {
-    numbers::answer(host_replies::Wanted::Report, listing, out)
+    numbers::answer(write_texts::Wanted::Report, listing, out)
 }
 
 // The cover.
@@ -19,7 +20,7 @@ pub extern "C" fn tsurmokan_report(listing: &[u8], out: &mut [u8]) -> i64
 pub extern "C" fn tsurmokan_cover(listing: &[u8], out: &mut [u8]) -> i64
     ensures { λ r. ⌜ (r, now (out .exit)) ≡ answered (coverReply (now (listing .entry))) (now (out .entry)) ⌝ }
 {
-    numbers::answer(host_replies::Wanted::Cover, listing, out)
+    numbers::answer(write_texts::Wanted::Cover, listing, out)
 }
 
 // What each width buys.
@@ -27,5 +28,21 @@ pub extern "C" fn tsurmokan_cover(listing: &[u8], out: &mut [u8]) -> i64
 pub extern "C" fn tsurmokan_widths(listing: &[u8], out: &mut [u8]) -> i64
     ensures { λ r. ⌜ (r, now (out .exit)) ≡ answered (widthsReply (now (listing .entry))) (now (out .entry)) ⌝ }
 {
-    numbers::answer(host_replies::Wanted::Widths, listing, out)
+    numbers::answer(write_texts::Wanted::Widths, listing, out)
+}
+
+// The whole lines of the report that fit, behind the bytes of it that the host has already: 0 where there is no more.
+#[no_mangle]
+pub extern "C" fn tsurmokan_report_part(listing: &[u8], from: usize, out: &mut [u8]) -> i64
+    ensures { λ r. ⌜ (r, now (out .exit)) ≡ answeredPart (reportReply (now (listing .entry))) from (now (out .entry)) ⌝ }
+{
+    numbers::answer_part(write_texts::Wanted::Report, listing, from, out)
+}
+
+// The same of the cover.
+#[no_mangle]
+pub extern "C" fn tsurmokan_cover_part(listing: &[u8], from: usize, out: &mut [u8]) -> i64
+    ensures { λ r. ⌜ (r, now (out .exit)) ≡ answeredPart (coverReply (now (listing .entry))) from (now (out .entry)) ⌝ }
+{
+    numbers::answer_part(write_texts::Wanted::Cover, listing, from, out)
 }

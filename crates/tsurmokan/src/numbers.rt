@@ -4,8 +4,10 @@ ghost use Prim.Native.Nat.{_<_};
 ghost use lib.IntN.{pos};
 ghost use Rattle.rules.specs.Refusals.{minus};
 ghost use Rattle.rules.specs.Answers.{answered};
+ghost use Rattle.rules.specs.Parts.{answeredPart};
 ghost use Rattle.host_replies.specs.Saying.{replyTo};
 ghost use Rattle.tsurmokan.specs.Signed.{signed, Within};
+use write_texts::Wanted;
 
 // The length of a text.
 fn length_of(n: usize) -> i64
@@ -36,9 +38,17 @@ fn number_of(said: host_replies::Said) -> i64
 }
 
 // The answer to what is wanted.
-pub fn answer(wanted: host_replies::Wanted, listing: &[u8], out: &mut [u8]) -> i64
+pub fn answer(wanted: Wanted, listing: &[u8], out: &mut [u8]) -> i64
     ensures { λ r. ⌜ (r, now (out .exit)) ≡ answered (replyTo wanted (now (listing .entry))) (now (out .entry)) ⌝ }
 {
     let said = host_replies::say(wanted, listing, out);
+    number_of(said)
+}
+
+// A part of it, from byte `from` on.
+pub fn answer_part(wanted: Wanted, listing: &[u8], from: usize, out: &mut [u8]) -> i64
+    ensures { λ r. ⌜ (r, now (out .exit)) ≡ answeredPart (replyTo wanted (now (listing .entry))) from (now (out .entry)) ⌝ }
+{
+    let said = host_replies::say_part(wanted, listing, from, out);
     number_of(said)
 }

@@ -1,35 +1,75 @@
--- How long a cover can be, within 01's limits: what a lent buffer has to hold.
-use mathlib.Core.List.{List, [], _∷_}
-use Prim.Native.Nat.{ℕ, _+_, _*_, _≤_, _<_}
+-- How long the lines of a cover, and a cover, can be, within 01's limits: what a lent buffer has to hold.
+use mathlib.Core.Path.{subst}
+use mathlib.Core.List.{List, [], _∷_, _++_}
+use Prim.Native.Nat.{ℕ, _+_, _*_, _^_, _≤_, _<_}
 use native.Mathlib.Omega.{arith}
 use lib.ListN.{length, length-append}
 use Rattle.rules.specs.Limits.{most-bits, most-rows}
+use Rattle.rules.specs.Text.{bytes}
 use Rattle.rules.specs.Listing.{rowsOf}
 use Rattle.rules.specs.Report.{joinedLines}
-use Rattle.rules.specs.Cover.{cover}
+use Rattle.rules.specs.Cover.{countedLine, coverLines, cover}
 use Rattle.rules.specs.declared.Head.{Head}
 use Rattle.rules.specs.declared.Row.{Row}
 use Rattle.rules.specs.declared.Listing.{Listing}
 use Rattle.rules.proofs.Decimal.{decimal-length}
+use Rattle.rules.proofs.Parts.{AllFit, fit-none, fit-more, fit-append, fit-map}
+use Rattle.write_parts.specs.Parts.{longest-line}
+use Rattle.write_pen.proofs.Growing.{joined-append, joined-one}
+use Rattle.write_faces.specs.Faces.{rowText}
 use Rattle.write_faces.proofs.Length.{row-length}
-use Rattle.write_cover.specs.Covers.{rowTexts, countsText, Bounded}
+use Rattle.write_cover.specs.Covers.{rowTexts, countLines, Bounded}
 use Rattle.write_cover.proofs.Whole.{cover-text}
 
--- ---- all rows
+-- ---- lines
 
-rows-length : (h : Head) (bits : List ℕ) (rs : List Row) → Bounded h → length bits ≤ most-bits → length (rowTexts h bits rs) ≤ 114 * length rs
+-- a mark of three bytes, by how many digits behind the first its number has
+pub counted-length : (d : ℕ) (mark : List ℕ) (v : ℕ) → length mark ≤ 3 → v < 10 ^ (d + 1) → length (countedLine mark v) ≤ d + 5
+counted-length d mark v m h = simp length-append (omega (arith, decimal-length d v h))
+
+pub row-few : (h : Head) (bits : List ℕ) (r : Row) → Bounded h → length bits ≤ most-bits → length (rowText h bits r) ≤ 178
+row-few h bits r b w = omega (arith, row-length h bits r, b .inputs, b .outputs)
+
+-- ---- all of them
+
+rows-length : (h : Head) (bits : List ℕ) (rs : List Row) → Bounded h → length bits ≤ most-bits → length (joinedLines (rowTexts h bits rs)) ≤ 178 * length rs
 unfolding rowTexts joinedLines
 rows-length h bits [] b w = omega arith
 rows-length h bits (r ∷ rs) b w =
-    let ih : length (rowTexts h bits rs) ≤ 114 * length rs = rows-length h bits rs b w in
-    rw length-append (omega (arith, row-length h bits r, b .inputs, b .outputs))
+    let ih : length (joinedLines (rowTexts h bits rs)) ≤ 178 * length rs = rows-length h bits rs b w in
+    rw length-append (omega (arith, row-few h bits r b w))
 
-counts-length : (i o p : ℕ) → i < 100 → o < 100 → p < 1000 → length (countsText i o p) ≤ 19
-unfolding countsText
-counts-length i o p a b c = simp length-append (omega (arith, decimal-length 1 i a, decimal-length 1 o b, decimal-length 2 p c))
+counts-length : (i o p : ℕ) → i < 100 → o < 100 → p < 1000 → length (joinedLines (countLines i o p)) ≤ 19
+unfolding countLines joinedLines
+counts-length i o p a b c =
+    omega (
+      arith,
+      counted-length 1 (bytes ".i ") i (omega arith) a,
+      counted-length 1 (bytes ".o ") o (omega arith) b,
+      counted-length 2 (bytes ".p ") p (omega arith) c,
+      length-append (countedLine (bytes ".i ") i) (countedLine (bytes ".o ") o ++ (countedLine (bytes ".p ") p ++ [])),
+      length-append (countedLine (bytes ".o ") o) (countedLine (bytes ".p ") p ++ []),
+      length-append (countedLine (bytes ".p ") p) [],
+    )
 
-pub cover-length : (t : Listing) (bits : List ℕ) → Bounded (t .head) → length (rowsOf t) ≤ most-rows → length bits ≤ most-bits → length (cover t bits) ≤ 14614
+pub cover-length : (t : Listing) (bits : List ℕ) → Bounded (t .head) → length (rowsOf t) ≤ most-rows → length bits ≤ most-bits → length (cover t bits) ≤ 22806
+unfolding cover
 cover-length t bits b r w =
-    let c = counts-length (t .head .inputs + length bits) (length bits + t .head .outputs) (length (rowsOf t)) (omega (arith, b .inputs)) (omega (arith, b .outputs)) (omega arith) in
+    let i = t .head .inputs + length bits in
+    let o = length bits + t .head .outputs in
+    let c = counts-length i o (length (rowsOf t)) (omega (arith, b .inputs)) (omega (arith, b .outputs)) (omega arith) in
     let l = rows-length (t .head) bits (rowsOf t) b w in
-    rw (← cover-text t bits) (simp length-append (omega arith))
+    let rows : List (List ℕ) = rowTexts (t .head) bits (rowsOf t) in
+    subst (λ (ls : List (List ℕ)). length (joinedLines ls) ≤ 22806) (cover-text t bits)
+    (rw (joined-append (countLines i o (length (rowsOf t))) (rows ++ (bytes ".e\n" ∷ [])), joined-append rows (bytes ".e\n" ∷ []), joined-one (bytes ".e\n"))
+    (simp length-append (omega arith)))
+
+-- ---- no line is longer than the longest
+
+pub cover-fit : (t : Listing) (bits : List ℕ) → Bounded (t .head) → length (rowsOf t) ≤ most-rows → length bits ≤ most-bits → AllFit longest-line (coverLines t bits)
+unfolding coverLines rowText
+cover-fit t bits b r w =
+    fit-more {l = countedLine (bytes ".i ") (t .head .inputs + length bits)} (omega (arith, counted-length 1 (bytes ".i ") (t .head .inputs + length bits) (omega arith) (omega (arith, b .inputs))))
+    (fit-more {l = countedLine (bytes ".o ") (length bits + t .head .outputs)} (omega (arith, counted-length 1 (bytes ".o ") (length bits + t .head .outputs) (omega arith) (omega (arith, b .outputs))))
+    (fit-more {l = countedLine (bytes ".p ") (length (rowsOf t))} (omega (arith, counted-length 2 (bytes ".p ") (length (rowsOf t)) (omega arith) (omega arith)))
+    (fit-append (fit-map longest-line (rowText (t .head) bits) (λ row. row-few (t .head) bits row b w) (rowsOf t)) (fit-more {l = bytes ".e\n"} (omega arith) fit-none))))

@@ -1,20 +1,44 @@
-// The cover: its counts, a line for each row, and its end. Marks are fixed byte strings.
+// The cover, line by line: its counts, a line for each row, and its end. Marks are fixed byte strings.
 ghost use mathlib.Core.Path.{_≡_};
-ghost use lib.ListN.{take};
-ghost use Rattle.write_pen.specs.Pen.{Wrote};
-ghost use Rattle.write_cover.specs.Covers.{countsText, bounded, coverText};
+ghost use Prim.Native.Nat.{_≤_};
+ghost use lib.ListN.{length, take};
+ghost use Rattle.rules.specs.Limits.{most-bits};
+ghost use Rattle.rules.specs.Cover.{countedLine};
+ghost use Rattle.write_faces.specs.Faces.{rowText};
+ghost use Rattle.write_parts.specs.Parts.{added, addedAll};
+ghost use Rattle.write_cover.specs.Covers.{Bounded, countLines, bounded, linesWithin};
+use rules::Head;
 use rules::Listing;
+use rules::Row;
+use write_parts::Part;
+
+// A mark and its number.
+fn add_count(out: &mut [u8], part: Part, mark: &[u8; 3], v: usize) -> Part
+    ensures { λ r. ⌜ (r, now (out .exit)) ≡ added (countedLine (now (mark .entry)) v) (part, now (out .entry)) ⌝ }
+{
+    let mut line = [0u8; 24];
+    let at = write_pen::put_bytes(&mut line, 0, mark);
+    let end = write_pen::put_field(&mut line, at, v as u64, b'\n');
+    write_parts::add_line(out, part, &line[..end])
+}
 
 // `.i`, `.o` and `.p`
-fn put_counts(out: &mut [u8], at: usize, inputs: usize, outputs: usize, rows: usize) -> usize
-    ensures { λ r. ⌜ Wrote (now (out .entry)) at (countsText inputs outputs rows) r (now (out .exit)) ⌝ }
+fn add_counts(out: &mut [u8], part: Part, inputs: usize, outputs: usize, rows: usize) -> Part
+    ensures { λ r. ⌜ (r, now (out .exit)) ≡ addedAll (countLines inputs outputs rows) (part, now (out .entry)) ⌝ }
 {
-    let p = write_pen::put_bytes(out, at, b".i ");
-    let q = write_pen::put_field(out, p, inputs as u64, b'\n');
-    let r = write_pen::put_bytes(out, q, b".o ");
-    let s = write_pen::put_field(out, r, outputs as u64, b'\n');
-    let t = write_pen::put_bytes(out, s, b".p ");
-    write_pen::put_field(out, t, rows as u64, b'\n')
+    let p = add_count(out, part, b".i ", inputs);
+    let q = add_count(out, p, b".o ", outputs);
+    add_count(out, q, b".p ", rows)
+}
+
+// The line of one row.
+fn add_row(out: &mut [u8], part: Part, head: Head, bits: &[u64], row: Row) -> Part
+    requires { ⌜ Bounded head × (length (now bits) ≤ most-bits) ⌝ }
+    ensures { λ r. ⌜ (r, now (out .exit)) ≡ added (rowText head (now (bits .entry)) row) (part, now (out .entry)) ⌝ }
+{
+    let mut line = [0u8; 178];
+    let end = write_faces::put_row(&mut line, 0, head, bits, row);
+    write_parts::add_line(out, part, &line[..end])
 }
 
 // Whether so many inputs and outputs are within 01's limits.
@@ -27,22 +51,28 @@ fn is_bounded(inputs: usize, outputs: usize) -> bool
     outputs <= rules::MOST_OUTPUTS
 }
 
-// The cover of any listing, with the first `width` bits of a code, from the buffer's start; of a listing with more inputs or outputs than 01 allows, as no
-// reader gives, no text.
-pub fn put_cover(out: &mut [u8], t: Listing, width: usize, bits: [u64; rules::MOST_BITS]) -> usize
-    ensures { λ r. ⌜ Wrote (now (out .entry)) 0 (coverText t (take width bits)) r (now (out .exit)) ⌝ }
+// The cover of any listing, with the first `width` bits of a code, added to a part; of a listing with more inputs or outputs than 01 allows, as no reader
+// gives, no line.
+pub fn add_cover(
+    out: &mut [u8],
+    part: Part,
+    t: Listing,
+    width: usize,
+    bits: [u64; rules::MOST_BITS],
+) -> Part
+    ensures { λ r. ⌜ (r, now (out .exit)) ≡ addedAll (linesWithin t (take width bits)) (part, now (out .entry)) ⌝ }
 {
     if !is_bounded(t.head.inputs, t.head.outputs) {
-        return 0;
+        return part;
     }
     let w = sets::least(width, rules::MOST_BITS);
     let n = sets::least(t.rows, rules::MOST_ROWS);
-    let mut to = put_counts(out, 0, t.head.inputs + w, w + t.head.outputs, n);
+    let mut to = add_counts(out, part, t.head.inputs + w, w + t.head.outputs, n);
     let mut i: usize = 0;
     while i < n {
         let row = t.table[i];
-        to = write_faces::put_row(out, to, t.head, &bits[..w], row);
+        to = add_row(out, to, t.head, &bits[..w], row);
         i += 1;
     }
-    write_pen::put_bytes(out, to, b".e\n")
+    write_parts::add_line(out, to, b".e\n")
 }

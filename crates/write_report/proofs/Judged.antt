@@ -1,6 +1,6 @@
 -- The lines of requirements by their judgements, as the walk that writes them meets them, and that they are the report's.
 use mathlib.Core.Path.{_≡_, refl, sym, ap, ap₂, _∙_}
-use mathlib.Core.List.{List, [], _∷_, _++_}
+use mathlib.Core.List.{List, [], _∷_, _++_, map}
 use Prim.Native.Nat.{ℕ, suc, _+_, _^_, _≤_, _<_}
 use native.Mathlib.Numerals.{add-one}
 use lib.ListN.{length}
@@ -19,7 +19,7 @@ use Rattle.code_walking.specs.Walking.{ahead, here, next}
 use Rattle.code_walking.specs.declared.Walk.{Walk}
 use Rattle.code_walking.proofs.Ahead.{over-none, ahead-step}
 use Rattle.code_judging.proofs.Wide.{judged-wide}
-use Rattle.write_report.specs.Report.{unmetLines, lineFor, linesOf}
+use Rattle.write_report.specs.Report.{lineFor, linesOf}
 use Rattle.write_report.specs.declared.Listed.{Listed}
 
 -- ---- the line of one, by what is known of the list and of the judgement
@@ -44,17 +44,17 @@ module _ (l : Listed) (k : ℕ) (j : Judgement) where
 -- ---- one line, and those behind it
 
 pub lines-behind : (l : Listed) (k : ℕ) (bits : List ℕ) (r : Requirement) (rs : List Requirement)
-    → linesOf l k bits (r ∷ rs) ≡ lineFor l k (judgement 64 bits r) ++ linesOf l (suc k) bits rs
+    → linesOf l k bits (r ∷ rs) ≡ lineFor l k (judgement 64 bits r) ∷ linesOf l (suc k) bits rs
 unfolding linesOf
 lines-behind l k bits r rs = refl
 
 module _ (l : Listed) (k : ℕ) (bits fs : List ℕ) (w : Walk) where
   pub lines-more : w .at + 3 ≤ length fs → w .rest < 2 ^ 64
-      → lineFor l k (judgement 64 bits (here fs w)) ++ linesOf l (k + 1) bits (ahead fs (next fs w)) ≡ linesOf l k bits (ahead fs w)
+      → lineFor l k (judgement 64 bits (here fs w)) ∷ linesOf l (k + 1) bits (ahead fs (next fs w)) ≡ linesOf l k bits (ahead fs w)
   lines-more h fits =
       sym (ap (linesOf l k bits) (ahead-step fs w h fits)
       ∙ lines-behind l k bits (here fs w) (ahead fs (next fs w))
-      ∙ ap (λ (j : ℕ). lineFor l k (judgement 64 bits (here fs w)) ++ linesOf l j bits (ahead fs (next fs w))) (sym (add-one k)))
+      ∙ ap (λ (j : ℕ). lineFor l k (judgement 64 bits (here fs w)) ∷ linesOf l j bits (ahead fs (next fs w))) (sym (add-one k)))
 
   pub lines-end : length fs < w .at + 3 → linesOf l k bits (ahead fs w) ≡ []
   unfolding linesOf
@@ -62,39 +62,42 @@ module _ (l : Listed) (k : ℕ) (bits fs : List ℕ) (w : Walk) where
 
 -- ---- they are the report's
 
-pub mets-are : (k : ℕ) (bits : List ℕ) (rs : List Requirement) → linesOf Listed.Met k bits rs ≡ joinedLines (metLines k 64 bits rs)
+abbrev text : Listed → ℕ → List ℕ → List Requirement → List ℕ
+text l k bits rs = joinedLines (linesOf l k bits rs)
+
+pub mets-are : (k : ℕ) (bits : List ℕ) (rs : List Requirement) → joinedLines (linesOf Listed.Met k bits rs) ≡ joinedLines (metLines k 64 bits rs)
 unfolding linesOf metLines joinedLines lineFor
 mets-are k bits [] = refl
 mets-are k bits (r ∷ rs) = go (judgement 64 bits r) refl (mets-are (suc k) bits rs)
   where
-    go : (j : Judgement) → judgement 64 bits r ≡ j → linesOf Listed.Met (suc k) bits rs ≡ joinedLines (metLines (suc k) 64 bits rs)
-        → lineFor Listed.Met k (judgement 64 bits r) ++ linesOf Listed.Met (suc k) bits rs ≡ joinedLines (metLines k 64 bits (r ∷ rs))
+    go : (j : Judgement) → judgement 64 bits r ≡ j → text Listed.Met (suc k) bits rs ≡ joinedLines (metLines (suc k) 64 bits rs)
+        → lineFor Listed.Met k (judgement 64 bits r) ++ text Listed.Met (suc k) bits rs ≡ joinedLines (metLines k 64 bits (r ∷ rs))
     go (By b) e more =
-        ap (λ (j : Judgement). lineFor Listed.Met k j ++ linesOf Listed.Met (suc k) bits rs) e
+        ap (λ (j : Judgement). lineFor Listed.Met k j ++ text Listed.Met (suc k) bits rs) e
         ∙ ap (λ (t : List ℕ). metLine (record { 0 = k }) b ++ t) more
         ∙ sym (ap joinedLines (lines-by k 64 bits r rs b e))
     go ByNone e more =
-        ap (λ (j : Judgement). lineFor Listed.Met k j ++ linesOf Listed.Met (suc k) bits rs) e ∙ more ∙ sym (ap joinedLines (lines-none k 64 bits r rs e))
+        ap (λ (j : Judgement). lineFor Listed.Met k j ++ text Listed.Met (suc k) bits rs) e ∙ more ∙ sym (ap joinedLines (lines-none k 64 bits r rs e))
 
-numbers-cons : (k : ℕ) (rs : List ℕ) → unmetLines (k ∷ rs) ≡ unmetLine (record { 0 = k }) ++ unmetLines rs
-unfolding unmetLines joinedLines
-numbers-cons k rs = refl
+-- a line for each of the requirements numbered
+abbrev unmetLines : List ℕ → List (List ℕ)
+unmetLines rs = map (λ r. unmetLine (record { 0 = r })) rs
 
-pub unmets-are : (k : ℕ) (bits : List ℕ) (rs : List Requirement) → linesOf Listed.Unmet k bits rs ≡ unmetLines (unmetFrom k 64 bits rs)
-unfolding linesOf unmetFrom unmetLines joinedLines lineFor
+pub unmets-are : (k : ℕ) (bits : List ℕ) (rs : List Requirement) → joinedLines (linesOf Listed.Unmet k bits rs) ≡ joinedLines (map (λ r. unmetLine (record { 0 = r })) (unmetFrom k 64 bits rs))
+unfolding linesOf unmetFrom joinedLines lineFor
 unmets-are k bits [] = refl
 unmets-are k bits (r ∷ rs) = go (judgement 64 bits r) refl (unmets-are (suc k) bits rs)
   where
-    go : (j : Judgement) → judgement 64 bits r ≡ j → linesOf Listed.Unmet (suc k) bits rs ≡ unmetLines (unmetFrom (suc k) 64 bits rs)
-        → lineFor Listed.Unmet k (judgement 64 bits r) ++ linesOf Listed.Unmet (suc k) bits rs ≡ unmetLines (unmetFrom k 64 bits (r ∷ rs))
+    go : (j : Judgement) → judgement 64 bits r ≡ j → text Listed.Unmet (suc k) bits rs ≡ joinedLines (unmetLines (unmetFrom (suc k) 64 bits rs))
+        → lineFor Listed.Unmet k (judgement 64 bits r) ++ text Listed.Unmet (suc k) bits rs ≡ joinedLines (unmetLines (unmetFrom k 64 bits (r ∷ rs)))
     go (By b) e more =
-        ap (λ (j : Judgement). lineFor Listed.Unmet k j ++ linesOf Listed.Unmet (suc k) bits rs) e
+        ap (λ (j : Judgement). lineFor Listed.Unmet k j ++ text Listed.Unmet (suc k) bits rs) e
         ∙ more
-        ∙ sym (ap unmetLines (listed-met k 64 bits r rs (met-judged 64 bits r b e)))
+        ∙ sym (ap (λ (ns : List ℕ). joinedLines (unmetLines ns)) (listed-met k 64 bits r rs (met-judged 64 bits r b e)))
     go ByNone e more =
-        ap (λ (j : Judgement). lineFor Listed.Unmet k j ++ linesOf Listed.Unmet (suc k) bits rs) e
+        ap (λ (j : Judgement). lineFor Listed.Unmet k j ++ text Listed.Unmet (suc k) bits rs) e
         ∙ ap (λ (t : List ℕ). unmetLine (record { 0 = k }) ++ t) more
-        ∙ sym (ap unmetLines (listed-unmet k 64 bits r rs (unmet-judged 64 bits r e)) ∙ numbers-cons k (unmetFrom (suc k) 64 bits rs))
+        ∙ sym (ap (λ (ns : List ℕ). joinedLines (unmetLines ns)) (listed-unmet k 64 bits r rs (unmet-judged 64 bits r e)))
 
 -- ---- over n states as over 64
 

@@ -14,23 +14,21 @@ use Rattle.families.specs.Families.{requirementsIn}
 use Rattle.sets.proofs.Places.{take-most}
 use Rattle.rules.specs.Limits.{most-bits}
 use Rattle.rules.specs.Text.{bytes}
-use Rattle.rules.specs.Report.{countLine, stateLine, joinedLines}
-use Rattle.write_pen.proofs.Growing.{states-one, joined-more}
-use Rattle.write_report.specs.Report.{stateLines, linesOf, most-words, firstOf, encodedReport}
+use Rattle.rules.specs.Report.{countLine, stateLine}
+use Rattle.write_pen.proofs.Growing.{states-one}
+use Rattle.write_report.specs.Report.{stateLines, linesOf, most-words, firstOf, encodedLines}
 use Rattle.write_report.specs.declared.Listed.{Listed}
 
 -- ---- lines of states
 
 pub states-none : (bits : List ℕ) → stateLines bits 0 ≡ []
-unfolding stateLines joinedLines statesFrom
+unfolding stateLines statesFrom
 states-none bits = refl
 
-pub states-more : (bits : List ℕ) (i : ℕ) → stateLines bits (i + 1) ≡ stateLines bits i ++ stateLine bits (record { 0 = i })
+pub states-more : (bits : List ℕ) (i : ℕ) → stateLines bits (i + 1) ≡ stateLines bits i ++ (stateLine bits (record { 0 = i }) ∷ [])
 unfolding stateLines
 states-more bits i =
-    ap (λ (l : List ℕ). joinedLines (map (λ s. stateLine bits (record { 0 = s })) l)) (states-one i)
-    ∙ ap joinedLines (map-append (λ s. stateLine bits (record { 0 = s })) (statesFrom 0 i) (i ∷ []))
-    ∙ joined-more (map (λ s. stateLine bits (record { 0 = s })) (statesFrom 0 i)) (stateLine bits (record { 0 = i }))
+    ap (map (λ s. stateLine bits (record { 0 = s }))) (states-one i) ∙ map-append (λ s. stateLine bits (record { 0 = s })) (statesFrom 0 i) (i ∷ [])
 
 -- ---- the whole report, from the parts of the answer's code and of the families that their arrays hold
 
@@ -48,8 +46,8 @@ pub report-parts : (n : ℕ) (fs : List ℕ) (e : Encoding) {w k : ℕ}
     → w ≡ min (e .width) most-bits
     → k ≡ min (length fs) most-words
     → countLine (e .width) (e .asked) (e .unmet) (e .passes) (e .looks)
-    ++ (stateLines (take w (e .bits)) n
-    ++ (linesOf Listed.Met 0 (take w (e .bits)) (requirementsIn (take k fs)) ++ (linesOf Listed.Unmet 0 (take w (e .bits)) (requirementsIn (take k fs)) ++ bytes "EN\n")))
-    ≡ encodedReport n fs e
-unfolding encodedReport
+    ∷ (stateLines (take w (e .bits)) n
+    ++ (linesOf Listed.Met 0 (take w (e .bits)) (requirementsIn (take k fs)) ++ (linesOf Listed.Unmet 0 (take w (e .bits)) (requirementsIn (take k fs)) ++ (bytes "EN\n" ∷ []))))
+    ≡ encodedLines n fs e
+unfolding encodedLines
 report-parts n fs e hb hw hk = rw (hw, take-most (e .width) most-bits (e .bits) hb, first-words fs hk)

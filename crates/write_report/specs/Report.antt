@@ -18,12 +18,8 @@ use Rattle.families.specs.Families.{requirementsIn}
 use Rattle.write_report.specs.declared.Listed.{Listed}
 
 -- a line for each of the first n states
-unfoldable pub stateLines : List ℕ → ℕ → List ℕ
-stateLines bits n = joinedLines (map (λ s. stateLine bits (record { 0 = s })) (statesFrom 0 n))
-
--- a line for each of the requirements numbered
-unfoldable pub unmetLines : List ℕ → List ℕ
-unmetLines rs = joinedLines (map (λ r. unmetLine (record { 0 = r })) rs)
+unfoldable pub stateLines : List ℕ → ℕ → List (List ℕ)
+stateLines bits n = map (λ s. stateLine bits (record { 0 = s })) (statesFrom 0 n)
 
 -- the line of the requirement with the number k, by its judgement, in the list of those that are met or of those that are not
 unfoldable pub lineFor : Listed → ℕ → Judgement → List ℕ
@@ -32,11 +28,11 @@ lineFor Listed.Met k ByNone = []
 lineFor Listed.Unmet k (By b) = []
 lineFor Listed.Unmet k ByNone = unmetLine (record { 0 = k })
 
--- the lines of requirements, the first of which has the number k; a set of states has 64 digits
-unfoldable pub linesOf : Listed → ℕ → List ℕ → List Requirement → List ℕ
+-- the lines of requirements, the first of which has the number k, an empty one for each that is not in the list; a set of states has 64 digits
+unfoldable pub linesOf : Listed → ℕ → List ℕ → List Requirement → List (List ℕ)
 unfolding lineFor
 linesOf l k bits [] = []
-linesOf l k bits (r ∷ rs) = lineFor l k (judgement 64 bits r) ++ linesOf l (suc k) bits rs
+linesOf l k bits (r ∷ rs) = lineFor l k (judgement 64 bits r) ∷ linesOf l (suc k) bits rs
 
 -- of more families than a listing can have, those that it can
 abbrev pub most-words : ℕ
@@ -45,15 +41,20 @@ most-words = 3 * (most-states + most-rows + most-dichotomies)
 abbrev pub firstOf : List ℕ → List ℕ
 firstOf fs = take most-words fs
 
--- the report of an answer on n states and on the requirements of some families
-unfoldable pub encodedReport : ℕ → List ℕ → Encoding → List ℕ
-encodedReport n fs e =
+-- the report of an answer on n states and on the requirements of some families, line by line
+unfoldable pub encodedLines : ℕ → List ℕ → Encoding → List (List ℕ)
+encodedLines n fs e =
     let bits : List ℕ = take (e .width) (e .bits) in
     countLine (e .width) (e .asked) (e .unmet) (e .passes) (e .looks)
-    ++ (stateLines bits n
+    ∷ (stateLines bits n
     ++ (linesOf Listed.Met 0 bits (requirementsIn (firstOf fs))
     ++ (linesOf Listed.Unmet 0 bits (requirementsIn (firstOf fs))
-    ++ bytes "EN\n")))
+    ++ (bytes "EN\n" ∷ []))))
+
+-- and whole
+unfoldable pub encodedReport : ℕ → List ℕ → Encoding → List ℕ
+unfolding encodedLines
+encodedReport n fs e = joinedLines (encodedLines n fs e)
 
 -- the answer holds the code c of the listing t: its bits and its counts
 pub record Holds (t : Listing) (c : Code) (e : Encoding) : Type 0 where

@@ -1,19 +1,22 @@
-// The report: its counts, a line for each state, a line for each requirement that is met, one for each that is not, and its end.
+// The report, line by line: its counts, a line for each state, one for each requirement that is met, one for each that is not, and its end.
 mod entries;
 
 ghost use mathlib.Core.Path.{_≡_};
-ghost use Prim.Native.Nat.{_+_, _*_, _≤_};
+ghost use Prim.Native.Nat.{_≤_};
 ghost use lib.ListN.{length};
-ghost use Rattle.rules.specs.Limits.{most-states, most-rows, most-dichotomies};
+ghost use Rattle.rules.specs.Limits.{most-bits};
 ghost use Rattle.rules.specs.Requirements.{judgement};
+ghost use Rattle.rules.specs.Report.{countLine, stateLine};
 ghost use Rattle.families.specs.Families.{requirementsIn};
 ghost use Rattle.write_pen.specs.Pen.{Wrote};
-ghost use Rattle.write_report.specs.Report.{stateLines, lineFor, linesOf, encodedReport};
+ghost use Rattle.write_parts.specs.Parts.{added, addedAll};
+ghost use Rattle.write_report.specs.Report.{stateLines, lineFor, linesOf, most-words, encodedLines};
 use rules::Encoding;
 use rules::Judgement;
 use rules::Requirement;
 use rules::RequirementNumber;
 use rules::StateNumber;
+use write_parts::Part;
 
 // Which requirements have their line: those that a bit meets, with its number, or those that none does.
 pub enum Listed {
@@ -21,14 +24,42 @@ pub enum Listed {
     Unmet,
 }
 
+// The line of the counts.
+fn add_counts(
+    out: &mut [u8],
+    part: Part,
+    bits: usize,
+    asked: usize,
+    unmet: usize,
+    passes: u64,
+    looks: u64,
+) -> Part
+    ensures { λ r. ⌜ (r, now (out .exit)) ≡ added (countLine bits asked unmet passes looks) (part, now (out .entry)) ⌝ }
+{
+    let mut line = [0u8; 108];
+    let end = entries::put_count_line(&mut line, 0, bits, asked, unmet, passes, looks);
+    write_parts::add_line(out, part, &line[..end])
+}
+
+// The line of one state.
+fn add_state(out: &mut [u8], part: Part, bits: &[u64], s: StateNumber) -> Part
+    requires { ⌜ length (now bits) ≤ most-bits ⌝ }
+    ensures { λ r. ⌜ (r, now (out .exit)) ≡ added (stateLine (now (bits .entry)) s) (part, now (out .entry)) ⌝ }
+{
+    let mut line = [0u8; 89];
+    let end = entries::put_state_line(&mut line, 0, bits, s);
+    write_parts::add_line(out, part, &line[..end])
+}
+
 // A line for each of the first n states.
-fn put_state_lines(out: &mut [u8], at: usize, bits: &[u64], n: usize) -> usize
-    ensures { λ r. ⌜ Wrote (now (out .entry)) at (stateLines (now (bits .entry)) n) r (now (out .exit)) ⌝ }
+fn add_states(out: &mut [u8], part: Part, bits: &[u64], n: usize) -> Part
+    requires { ⌜ length (now bits) ≤ most-bits ⌝ }
+    ensures { λ r. ⌜ (r, now (out .exit)) ≡ addedAll (stateLines (now (bits .entry)) n) (part, now (out .entry)) ⌝ }
 {
     let mut i: usize = 0;
-    let mut to = at;
+    let mut to = part;
     while i < n {
-        to = entries::put_state_line(out, to, bits, StateNumber(i));
+        to = add_state(out, to, bits, StateNumber(i));
         i += 1;
     }
     to
@@ -58,33 +89,52 @@ fn put_judged(
     }
 }
 
-// The lines of the requirements that are met, or of those that are not, numbered from 0.
-fn put_lines(out: &mut [u8], at: usize, bits: &[u64], fs: &[u64], listed: Listed) -> usize
-    requires { ⌜ length (now fs) ≤ 3 * (most-states + most-rows + most-dichotomies) ⌝ }
-    ensures { λ r. ⌜ Wrote (now (out .entry)) at (linesOf listed 0 (now (bits .entry)) (requirementsIn (now (fs .entry)))) r (now (out .exit)) ⌝ }
+// The line of one requirement, or none.
+fn add_judged(
+    out: &mut [u8],
+    part: Part,
+    bits: &[u64],
+    asked: Requirement,
+    number: RequirementNumber,
+    listed: Listed,
+) -> Part
+    ensures { λ r. ⌜ (r, now (out .exit)) ≡ added (lineFor listed (number .0) (judgement 64 (now (bits .entry)) asked)) (part, now (out .entry)) ⌝ }
+{
+    let mut line = [0u8; 45];
+    let end = put_judged(&mut line, 0, bits, asked, number, listed);
+    write_parts::add_line(out, part, &line[..end])
+}
+
+// The lines of the requirements that are met, or of those that are not, numbered from 0, until one does not fit.
+fn add_listed(out: &mut [u8], part: Part, bits: &[u64], fs: &[u64], listed: Listed) -> Part
+    requires { ⌜ length (now fs) ≤ most-words ⌝ }
+    ensures { λ r. ⌜ (r, now (out .exit)) ≡ addedAll (linesOf listed 0 (now (bits .entry)) (requirementsIn (now (fs .entry)))) (part, now (out .entry)) ⌝ }
 {
     let mut w = code_walking::enter(fs, 0);
     let mut k: usize = 0;
-    let mut to = at;
+    let mut to = part;
     while !code_walking::is_over(fs, w) {
+        if to.full {
+            return to;
+        }
         let asked = code_walking::requirement(fs, w);
-        to = put_judged(out, to, bits, asked, RequirementNumber(k), listed);
+        to = add_judged(out, to, bits, asked, RequirementNumber(k), listed);
         w = code_walking::step(fs, w);
         k += 1;
     }
     to
 }
 
-// The report on n states and on the families of a listing, from the buffer's start. Of more families than a listing can have the first count.
-pub fn put_report(out: &mut [u8], n: usize, e: Encoding, fs: &[u64]) -> usize
-    ensures { λ r. ⌜ Wrote (now (out .entry)) 0 (encodedReport n (now (fs .entry)) e) r (now (out .exit)) ⌝ }
+// The report on n states and on the families of a listing, added to a part. Of more families than a listing can have the first count.
+pub fn add_report(out: &mut [u8], part: Part, n: usize, e: Encoding, fs: &[u64]) -> Part
+    ensures { λ r. ⌜ (r, now (out .exit)) ≡ addedAll (encodedLines n (now (fs .entry)) e) (part, now (out .entry)) ⌝ }
 {
     let width = sets::least(e.width, rules::MOST_BITS);
     let end = sets::least(fs.len(), code_drawing::ALL_WORDS);
     let bits = e.bits;
-    let p = entries::put_count_line(out, 0, e.width, e.asked, e.unmet, e.passes, e.looks);
-    let q = put_state_lines(out, p, &bits[..width], n);
-    let r = put_lines(out, q, &bits[..width], &fs[..end], Listed::Met);
-    let s = put_lines(out, r, &bits[..width], &fs[..end], Listed::Unmet);
-    write_pen::put_bytes(out, s, b"EN\n")
+    let p = add_counts(out, part, e.width, e.asked, e.unmet, e.passes, e.looks);
+    let q = add_states(out, p, &bits[..width], n);
+    let r = add_listed(out, q, &bits[..width], &fs[..end], Listed::Met);
+    let s = add_listed(out, r, &bits[..width], &fs[..end], Listed::Unmet);
+    write_parts::add_line(out, s, b"EN\n")
 }

@@ -1,6 +1,6 @@
 -- What each width buys, as written from an encoder's answer and the families of a listing.
 use mathlib.Core.Bool.{not}
-use mathlib.Core.List.{List, _++_, map}
+use mathlib.Core.List.{List, [], _∷_, _++_, map}
 use Prim.Native.Nat.{ℕ}
 use lib.ListN.{length, take}
 use Rattle.sets.specs.Sets.{statesFrom}
@@ -19,10 +19,15 @@ unfoldable pub lineOf : List ℕ → List ℕ → List ℕ → ℕ → List ℕ
 lineOf fs gs bits w = widthLine w (length (unmetFrom 0 64 (take w bits) (requirementsIn fs))) (not (someUnmet (take w bits) (requirementsIn gs)))
 
 -- a line for each width from 1 to k
-unfoldable pub linesTo : List ℕ → List ℕ → List ℕ → ℕ → List ℕ
-linesTo fs gs bits k = joinedLines (map (lineOf fs gs bits) (statesFrom 1 k))
+unfoldable pub linesTo : List ℕ → List ℕ → List ℕ → ℕ → List (List ℕ)
+linesTo fs gs bits k = map (lineOf fs gs bits) (statesFrom 1 k)
+
+-- and the end
+unfoldable pub encodedLines : List ℕ → ℕ → Encoding → List (List ℕ)
+encodedLines fs first e =
+    let bits : List ℕ = take (e .width) (e .bits) in
+    linesTo (firstOf fs) (take first (firstOf fs)) bits (length bits) ++ (bytes "EN\n" ∷ [])
 
 unfoldable pub encodedWidths : List ℕ → ℕ → Encoding → List ℕ
-encodedWidths fs first e =
-    let bits : List ℕ = take (e .width) (e .bits) in
-    linesTo (firstOf fs) (take first (firstOf fs)) bits (length bits) ++ bytes "EN\n"
+unfolding encodedLines
+encodedWidths fs first e = joinedLines (encodedLines fs first e)

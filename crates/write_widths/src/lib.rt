@@ -1,4 +1,4 @@
-// What each width buys, from one code: a line for each width from 1 to that of the code, and the end.
+// What each width buys, line by line, from one code: a line for each width from 1 to that of the code, and the end.
 ghost use mathlib.Core.Path.{_≡_};
 ghost use mathlib.Core.Bool.{not};
 ghost use Prim.Native.Nat.{_≤_};
@@ -9,10 +9,12 @@ ghost use Rattle.rules.specs.Code.{unmetFrom};
 ghost use Rattle.rules.specs.Widths.{widthLine};
 ghost use Rattle.families.specs.Families.{requirementsIn};
 ghost use Rattle.write_pen.specs.Pen.{Wrote};
+ghost use Rattle.write_parts.specs.Parts.{added, addedAll};
 ghost use Rattle.write_report.specs.Report.{most-words};
-ghost use Rattle.write_widths.specs.Widths.{lineOf, linesTo, encodedWidths};
+ghost use Rattle.write_widths.specs.Widths.{lineOf, linesTo, encodedLines};
 use rules::Encoding;
 use rules::Judgement;
+use write_parts::Part;
 
 // 1 for a requirement that no bit meets, else 0.
 fn missed(judged: Judgement) -> usize
@@ -52,45 +54,54 @@ fn put_width_line(out: &mut [u8], at: usize, width: usize, unmet: usize, covered
     write_pen::put_field(out, r, 0, b'\n')
 }
 
+// The same, added to a part.
+fn add_width_line(out: &mut [u8], part: Part, width: usize, unmet: usize, covered: bool) -> Part
+    ensures { λ r. ⌜ (r, now (out .exit)) ≡ added (widthLine width unmet covered) (part, now (out .entry)) ⌝ }
+{
+    let mut line = [0u8; 47];
+    let end = put_width_line(&mut line, 0, width, unmet, covered);
+    write_parts::add_line(out, part, &line[..end])
+}
+
 // The line of one width: that many of the bits. The pairs and the groups are in the first words of the families.
-fn put_width(
+fn add_width(
     out: &mut [u8],
-    at: usize,
+    part: Part,
     bits: &[u64],
     fs: &[u64],
     first: usize,
     width: usize,
-) -> usize
+) -> Part
     requires { ⌜ (length (now fs) ≤ most-words) × (first ≤ length (now fs)) × (width ≤ length (now bits)) ⌝ }
-    ensures { λ r. ⌜ Wrote (now (out .entry)) at (lineOf (now (fs .entry)) (take first (now (fs .entry))) (now (bits .entry)) width) r (now (out .exit)) ⌝ }
+    ensures { λ r. ⌜ (r, now (out .exit)) ≡ added (lineOf (now (fs .entry)) (take first (now (fs .entry))) (now (bits .entry)) width) (part, now (out .entry)) ⌝ }
 {
     let unmet = count_unmet(&bits[..width], fs);
     let open = code_judging::is_unmet_in(&bits[..width], &fs[..first]);
-    put_width_line(out, at, width, unmet, !open)
+    add_width_line(out, part, width, unmet, !open)
 }
 
 // A line for each width up to that of the bits.
-fn put_lines(out: &mut [u8], bits: &[u64], fs: &[u64], first: usize) -> usize
+fn add_lines(out: &mut [u8], part: Part, bits: &[u64], fs: &[u64], first: usize) -> Part
     requires { ⌜ (length (now fs) ≤ most-words) × (first ≤ length (now fs)) ⌝ }
-    ensures { λ r. ⌜ Wrote (now (out .entry)) 0 (linesTo (now (fs .entry)) (take first (now (fs .entry))) (now (bits .entry)) (length (now (bits .entry)))) r (now (out .exit)) ⌝ }
+    ensures { λ r. ⌜ (r, now (out .exit)) ≡ addedAll (linesTo (now (fs .entry)) (take first (now (fs .entry))) (now (bits .entry)) (length (now (bits .entry)))) (part, now (out .entry)) ⌝ }
 {
     let mut width: usize = 0;
-    let mut to: usize = 0;
+    let mut to = part;
     while width < bits.len() {
-        to = put_width(out, to, bits, fs, first, width + 1);
+        to = add_width(out, to, bits, fs, first, width + 1);
         width += 1;
     }
     to
 }
 
-// The whole, from the buffer's start. Of more families than a listing can have the first count.
-pub fn put_widths(out: &mut [u8], e: Encoding, fs: &[u64], first: usize) -> usize
-    ensures { λ r. ⌜ Wrote (now (out .entry)) 0 (encodedWidths (now (fs .entry)) first e) r (now (out .exit)) ⌝ }
+// The whole, added to a part. Of more families than a listing can have the first count.
+pub fn add_widths(out: &mut [u8], part: Part, e: Encoding, fs: &[u64], first: usize) -> Part
+    ensures { λ r. ⌜ (r, now (out .exit)) ≡ addedAll (encodedLines (now (fs .entry)) first e) (part, now (out .entry)) ⌝ }
 {
     let width = sets::least(e.width, rules::MOST_BITS);
     let end = sets::least(fs.len(), code_drawing::ALL_WORDS);
     let front = sets::least(first, end);
     let bits = e.bits;
-    let to = put_lines(out, &bits[..width], &fs[..end], front);
-    write_pen::put_bytes(out, to, b"EN\n")
+    let to = add_lines(out, part, &bits[..width], &fs[..end], front);
+    write_parts::add_line(out, to, b"EN\n")
 }

@@ -21,7 +21,7 @@ draw-dichotomies-requires : tie.Need-draw-dichotomies-requires
 unfolding groupFamilies
 draw-dichotomies-requires c κs =
     let d = c .before .draw-rows .ensures in
-    let s = c .before .before .before in
+    let s = c .before .before .before .before .before in
     let count = d .count in
     let few = few-groups (s .args .t) (long s) in
     let same = drew-length (omega arith) d in
@@ -31,7 +31,7 @@ returns : tie.Need-returns
 unfolding familiesOf groupFamilies
 returns c =
     let l = c .before .before in
-    let s = l .before .before in
+    let s = l .before .before .before .before in
     let d = l .draw-rows .ensures in
     let count = d .count in
     let few = few-groups (s .args .t) (long s) in

@@ -20,7 +20,7 @@ draw-before-requires c κs = search needs
 draw-dichotomies-requires : tie.Need-draw-dichotomies-requires
 draw-dichotomies-requires c κs =
     let d = c .before .draw-before .ensures in
-    let s = c .before .before .before in
+    let s = c .before .before .before .before in
     let count = d .count in
     let few = few-first (s .args .t) (long s) in
     let same = drew-length (omega arith) d in
@@ -30,7 +30,7 @@ returns : tie.Need-returns
 unfolding allFamilies
 returns c =
     let l = c .before .before in
-    let s = l .before .before in
+    let s = l .before .before .before in
     let d = l .draw-before .ensures in
     let count = d .count in
     let few = few-first (s .args .t) (long s) in

@@ -19,7 +19,7 @@ draw-pairs-requires c κs = search needs
 draw-rows-requires : tie.Need-draw-rows-requires
 draw-rows-requires c κs =
     let l = c .before .before .before in
-    let s = l .before .before .before .before in
+    let s = l .before .before .before .before .before in
     let d = l .draw-pairs .ensures in
     let m : ℕ = l .before .before .least .result in
     let count = d .count in
@@ -34,7 +34,7 @@ returns : tie.Need-returns
 unfolding firstFamilies
 returns c =
     let l = c .before .before .before .before .before .before in
-    let s = l .before .before .before .before in
+    let s = l .before .before .before .before .before in
     let t = s .args .t in
     let d = l .draw-pairs .ensures in
     let m : ℕ = l .before .before .least .result in

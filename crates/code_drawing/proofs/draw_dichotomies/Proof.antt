@@ -1,7 +1,6 @@
 -- `code_drawing::draw_dichotomies` meets its contract: the dichotomies still to come, behind the words drawn, make what all of them make.
 use borrow.Author.Needs.{needs}
 use lib.ListN.{length-map, length, take, drop}
-use Rattle.rules.specs.Listing.{dichotomiesOf}
 use Rattle.code_drawing.specs.Drawing.{dichotomyWords, Drew}
 use Rattle.code_drawing.proofs.Growing.{drew-none, drew-more, drew-as, drew-length, drew-words}
 use Rattle.code_drawing.proofs.Words.{dichotomy-more, dichotomy-none}
@@ -13,16 +12,16 @@ use Rattle.code_drawing.proofs.draw_dichotomies.Statement.{statement}
 use Rattle.code_drawing.proofs.draw_dichotomies.Tie as tie
 
 abbrev Inv-loop : tie.InvT-loop
-Inv-loop fs₀ at t n d₀ k₀ fs d k =
-    (k ≡ at + 3 * d) × (length fs ≡ length fs₀) × Drew fs₀ (take k fs) k fs × (take k fs ++ dichotomyWords (drop d (dichotomiesOf t)) ≡ take at fs₀ ++ dichotomyWords (dichotomiesOf t))
+Inv-loop count fs₀ at table n d₀ k₀ fs d k =
+    (k ≡ at + 3 * d) × (length fs ≡ length fs₀) × Drew fs₀ (take k fs) k fs × (take k fs ++ dichotomyWords (drop d (take count table)) ≡ take at fs₀ ++ dichotomyWords (take count table))
 
 abbrev μ-loop : tie.MeasureT-loop
-μ-loop fs₀ at t n d₀ k₀ fs d k =
+μ-loop count fs₀ at table n d₀ k₀ fs d k =
     n - d
 
--- the places of the listing's table
-long : (s : tie.Start Inv-loop μ-loop) → length (s .args .t1 .asked) ≡ 64
-long s = sym (length-map (s .args .t1 .asked) _) ∙ s .good .0 .1 .1 .1 .1 .1 .1 .0 .1 .0 .1
+-- the places of the table
+long : (s : tie.Start Inv-loop μ-loop) → length (s .args .t2) ≡ 64
+long s = search needs
 
 least-requires : tie.Need-least-requires Inv-loop μ-loop
 least-requires c κs = search needs
@@ -35,8 +34,8 @@ loop-holds c =
 mul-asked : tie.Need-mul-asked Inv-loop μ-loop
 mul-asked c = search needs
 
-element-copy-out-asked : tie.Need-element-copy-out-asked Inv-loop μ-loop
-element-copy-out-asked c = search needs
+array-copy-out-asked : tie.Need-array-copy-out-asked Inv-loop μ-loop
+array-copy-out-asked c = search needs
 
 put-family-requires : tie.Need-put-family-requires Inv-loop μ-loop
 put-family-requires c κs =
@@ -53,7 +52,6 @@ loop-again : tie.Need-loop-again Inv-loop μ-loop
 loop-again c =
     let l = c .before .before .before .before .before .before .before in
     let s = l .before .before .before in
-    let t = s .args .t1 in
     let p = c .before .before .put-family .ensures .1 in
     let few : l .loop .k + 3 ≤ length (l .loop .fs) = omega (arith, l .loop .inv .0, l .loop .inv .1) in
     let three = c .before .before .put-family .ensures .0 in
@@ -62,8 +60,8 @@ loop-again c =
       omega (arith, l .loop .inv .0),
       same ∙ l .loop .inv .1,
       drew-more (l .loop .inv .2) p (omega arith),
-      ap (λ (x : List ℕ). x ++ dichotomyWords (drop (l .loop .d + 1) (dichotomiesOf t))) more
-          ∙ dichotomy-more (t .asked) (t .dichotomies) (l .loop .d) (take (l .loop .k) (l .loop .fs)) (omega arith) (omega (arith, long s))
+      ap (λ (x : List ℕ). x ++ dichotomyWords (drop (l .loop .d + 1) (take (s .args .count) (s .args .t2)))) more
+          ∙ dichotomy-more (s .args .t2) (s .args .count) (l .loop .d) (take (l .loop .k) (l .loop .fs)) (omega arith) (omega (arith, long s))
           ∙ l .loop .inv .3,
     )
 
@@ -75,8 +73,7 @@ returns : tie.Need-returns Inv-loop μ-loop
 returns c =
     let l = c .before in
     let s = l .before .before .before in
-    let t = s .args .t1 in
-    drew-as (l .loop .inv .2) (dichotomy-none (t .asked) (t .dichotomies) (l .loop .d) (take (l .loop .k) (l .loop .fs)) (omega (arith, long s)) ∙ l .loop .inv .3)
+    drew-as (l .loop .inv .2) (dichotomy-none (s .args .t2) (s .args .count) (l .loop .d) (take (l .loop .k) (l .loop .fs)) (omega (arith, long s)) ∙ l .loop .inv .3)
 
 pub draw-dichotomies-spec : {M : Type 1} → statement M
 draw-dichotomies-spec =
@@ -87,7 +84,7 @@ draw-dichotomies-spec =
     least-requires
     loop-holds
     mul-asked
-    element-copy-out-asked
+    array-copy-out-asked
     put-family-requires
     add-d
     loop-less

@@ -1,5 +1,5 @@
 -- `code_drawing::draw_rows` meets its contract: the rows still to come, behind the words drawn, make what all of them make.
-use Rattle.rules.specs.Listing.{noRow, rowsOf}
+use Rattle.rules.specs.Listing.{noRow}
 use Rattle.code_drawing.proofs.Groups.{with-length, rows-more, rows-none}
 use Rattle.code_drawing.specs.Drawing.{withGroups, Drew}
 use lib.Seq.{length-take-le}
@@ -14,16 +14,16 @@ use Rattle.code_drawing.proofs.draw_rows.Statement.{statement}
 use Rattle.code_drawing.proofs.draw_rows.Tie as tie
 
 abbrev Inv-loop : tie.InvT-loop
-Inv-loop fs₀ at t n rows r₀ k₀ fs r k =
-    (at ≤ k) × (k ≤ at + 3 * r) × (length fs ≡ length fs₀) × Drew fs₀ (take k fs) k fs × (withGroups n (take k fs) (drop r (rowsOf t)) ≡ withGroups n (take at fs₀) (rowsOf t))
+Inv-loop n count fs₀ at table rows r₀ k₀ fs r k =
+    (at ≤ k) × (k ≤ at + 3 * r) × (length fs ≡ length fs₀) × Drew fs₀ (take k fs) k fs × (withGroups n (take k fs) (drop r (take count table)) ≡ withGroups n (take at fs₀) (take count table))
 
 abbrev μ-loop : tie.MeasureT-loop
-μ-loop fs₀ at t n rows r₀ k₀ fs r k =
+μ-loop n count fs₀ at table rows r₀ k₀ fs r k =
     rows - r
 
--- the places of the listing's table
-long : (s : tie.Start Inv-loop μ-loop) → length (s .args .t1 .table) ≡ 128
-long s = sym (length-map (s .args .t1 .table) _) ∙ s .good .0 .1 .1 .1 .1 .0 .1 .0 .1
+-- the places of the table
+long : (s : tie.Start Inv-loop μ-loop) → length (s .args .t3) ≡ 128
+long s = search needs
 
 least-requires : tie.Need-least-requires Inv-loop μ-loop
 least-requires c κs = search needs
@@ -36,8 +36,8 @@ loop-holds c =
 mul-row : tie.Need-mul-row Inv-loop μ-loop
 mul-row c = search needs
 
-element-copy-out-row : tie.Need-element-copy-out-row Inv-loop μ-loop
-element-copy-out-row c = search needs
+array-copy-out-row : tie.Need-array-copy-out-row Inv-loop μ-loop
+array-copy-out-row c = search needs
 
 draw-group-requires : tie.Need-draw-group-requires Inv-loop μ-loop
 draw-group-requires c κs =
@@ -54,9 +54,9 @@ loop-again : tie.Need-loop-again Inv-loop μ-loop
 loop-again c =
     let l = c .before .before .before .before .before .before in
     let s = l .before .before .before in
-    let t = s .args .t1 in
-    let n = t .head .states in
-    let g = getD (t .table) (l .loop .r) noRow .group in
+    let n = s .args .n in
+    let table = s .args .t3 in
+    let g = getD table (l .loop .r) noRow .group in
     let d = c .before .before .draw-group .ensures in
     let few : l .loop .k + 3 ≤ length (l .loop .fs) = omega (arith, l .loop .inv .1, l .loop .inv .2) in
     let w = with-length n (take (l .loop .k) (l .loop .fs)) g in
@@ -68,8 +68,8 @@ loop-again c =
       omega (arith, l .loop .inv .1),
       drew-length (omega arith) d ∙ l .loop .inv .2,
       drew-more (l .loop .inv .3) d up,
-      ap (λ (x : List ℕ). withGroups n x (drop (l .loop .r + 1) (rowsOf t))) (drew-words d)
-          ∙ rows-more (t .table) n (t .rows) (l .loop .r) (take (l .loop .k) (l .loop .fs)) (omega arith) (omega (arith, long s))
+      ap (λ (x : List ℕ). withGroups n x (drop (l .loop .r + 1) (take (s .args .count) table))) (drew-words d)
+          ∙ rows-more table n (s .args .count) (l .loop .r) (take (l .loop .k) (l .loop .fs)) (omega arith) (omega (arith, long s))
           ∙ l .loop .inv .4,
     )
 
@@ -81,8 +81,7 @@ returns : tie.Need-returns Inv-loop μ-loop
 returns c =
     let l = c .before in
     let s = l .before .before .before in
-    let t = s .args .t1 in
-    drew-as (l .loop .inv .3) (rows-none (t .table) (t .head .states) (t .rows) (l .loop .r) (take (l .loop .k) (l .loop .fs)) (omega (arith, long s)) ∙ l .loop .inv .4)
+    drew-as (l .loop .inv .3) (rows-none (s .args .t3) (s .args .n) (s .args .count) (l .loop .r) (take (l .loop .k) (l .loop .fs)) (omega (arith, long s)) ∙ l .loop .inv .4)
 
 pub draw-rows-spec : {M : Type 1} → statement M
 draw-rows-spec =
@@ -93,7 +92,7 @@ draw-rows-spec =
     least-requires
     loop-holds
     mul-row
-    element-copy-out-row
+    array-copy-out-row
     draw-group-requires
     add-r
     loop-less

@@ -1,39 +1,69 @@
--- `host_prints::print` meets its contract.
-use Rattle.host_prints.proofs.Printing.{it-holds, it-tells, nothing-printed, printing-fits}
-use Rattle.host_replies.specs.Saying.{replyTo}
-use Rattle.host_replies.proofs.Small.{small}
-use native.Mathlib.Omega.{arith}
+-- `host_prints::print` meets its contract: a refusal's line, or the lines of the text, from the byte asked for on.
+use mathlib.Core.Path.{_≡_, refl, sym, ap, _∙_}
+use mathlib.Core.List.{List}
+use Prim.Native.Nat.{ℕ}
 use borrow.Author.Needs.{needs}
+use Rattle.rules.specs.Answers.{refuses, printed}
+use Rattle.write_parts.specs.Parts.{added, addedAll}
+use Rattle.write_parts.specs.declared.Part.{Part}
+use Rattle.host_replies.specs.Ready.{linesOf, replyOf}
+use Rattle.host_prints.proofs.Printing.{refused-printed, text-printed, printed-few}
 use Rattle.host_prints.proofs.print.Statement.{statement}
 use Rattle.host_prints.proofs.print.Tie as tie
 
-returns : tie.Need-returns
-returns c = let s = c .before .before .before in (nothing-printed (replyTo (s .args .wanted) (s .args .listing .now)) _ (c .if1 .taken), omega arith)
+enum-known-verdict : tie.Need-enum-known-verdict
+enum-known-verdict c = search needs
 
-say-requires : tie.Need-say-requires
-say-requires c κs = search needs
+begin-requires : tie.Need-begin-requires
+begin-requires c κs = search needs
 
-tell-requires : tie.Need-tell-requires
-tell-requires c κs =
-    let d = c .before .before .before in
-    let s = d .before .before .before .before .before in
-    let w = s .args .wanted in
-    let l = s .args .listing .now in
-    rw (d .say .kept .1 .1 .0) (it-holds (replyTo w l) _ _ _ (d .say .ensures) (small w l) (d .before .before .if1 .left))
+add-refusal-requires : tie.Need-add-refusal-requires
+add-refusal-requires c κs = search needs
+
+enum-told : tie.Need-enum-told
+enum-told c = search needs
+
+begin-requires-2 : tie.Need-begin-requires-2
+begin-requires-2 c κs = search needs
+
+add-text-requires : tie.Need-add-text-requires
+add-text-requires c κs = search needs
 
 same-length : tie.Need-same-length
 same-length c = search needs
 
+returns : tie.Need-returns
+returns c =
+    let t = c .before .before in
+    let k = t .before .before .before .before in
+    let a = k .before .before .before .args in
+    let began = t .add-refusal .ensures ∙ ap (λ (p : Part). added (printed (refuses (k .verdict .given .0 .0) (k .verdict .given .0 .1 .0))) (p, a .out .now)) (t .before .begin .ensures) in
+    let said = refused-printed (a .ready) (a .from) (a .out .now) (t .add-refusal .result, t .add-refusal .last .0) _ _ (k .verdict .given .1) began in
+    (said, printed-few (replyOf (a .ready)) (a .from) (a .out .now) _ _ said (t .add-refusal .kept .0))
+
+same-length-2 : tie.Need-same-length-2
+same-length-2 c = search needs
+
 returns-2 : tie.Need-returns-2
 returns-2 c =
-    let a = c .before .before in
-    let d = a .before .before .before .before in
-    let s = d .before .before .before .before .before in
-    let w = s .args .wanted in
-    let l = s .args .listing .now in
-    let e = it-tells (replyTo w l) _ _ _ (d .say .ensures) (small w l) (d .before .before .if1 .left) _ (a .tell .ensures) in
-    (e, omega (arith, printing-fits (replyTo w l) _ _ _ e (small w l), a .tell .kept .1 .0, d .say .kept .1 .1 .0))
+    let t = c .before .before in
+    let k = t .before .before .before in
+    let a = k .before .before .before .args in
+    let began = t .add-text .ensures ∙ ap (λ (p : Part). addedAll (linesOf (a .ready)) (p, a .out .now)) (t .before .before .begin2 .ensures) in
+    let said = text-printed (a .ready) (a .from) (a .out .now) (t .add-text .result, t .add-text .last .1 .1 .0) (k .enum-told .given .1) began in
+    (said, printed-few (replyOf (a .ready)) (a .from) (a .out .now) _ _ said (t .add-text .kept .1 .1 .0))
 
 pub print-spec : {M : Type 1} → statement M
 print-spec =
-    tie.close (tie.spec returns say-requires tell-requires same-length returns-2)
+    tie.close
+    (tie.spec
+    enum-known-verdict
+    begin-requires
+    add-refusal-requires
+    enum-told
+    begin-requires-2
+    add-text-requires
+    same-length
+    returns
+    same-length-2
+    returns-2)

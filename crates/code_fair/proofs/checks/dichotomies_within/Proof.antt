@@ -37,7 +37,7 @@ element-copy-out-d : tie.Need-element-copy-out-d Inv-loop μ-loop
 element-copy-out-d c = omega (arith, limits (c .before .before) .few-dichotomies)
 
 blocks-within-requires : tie.Need-blocks-within-requires Inv-loop μ-loop
-blocks-within-requires c κs = limits (c .before .before .before) .few-states
+blocks-within-requires c κs = search needs
 
 returns : tie.Need-returns Inv-loop μ-loop
 returns c =

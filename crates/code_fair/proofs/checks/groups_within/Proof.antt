@@ -37,7 +37,7 @@ element-copy-out-row : tie.Need-element-copy-out-row Inv-loop μ-loop
 element-copy-out-row c = omega (arith, limits (c .before .before) .few-rows)
 
 within-requires : tie.Need-within-requires Inv-loop μ-loop
-within-requires c κs = limits (c .before .before .before) .few-states
+within-requires c κs = search needs
 
 returns : tie.Need-returns Inv-loop μ-loop
 returns c =

@@ -1,0 +1,33 @@
+-- `host_replies::width_for` meets its contract, by what is wanted.
+use mathlib.Core.Path.{sym, ap}
+use borrow.Author.Needs.{needs}
+use Rattle.write_texts.specs.declared.Wanted.{Wanted}
+use Rattle.host_replies.specs.Ready.{widthFor}
+use Rattle.host_replies.proofs.width_for.Statement.{statement}
+use Rattle.host_replies.proofs.width_for.Tie as tie
+
+enum-told : tie.Need-enum-told
+enum-told c = search needs
+
+enum-told-2 : tie.Need-enum-told-2
+enum-told-2 c = search needs
+
+enum-told-3 : tie.Need-enum-told-3
+enum-told-3 c = search needs
+
+returns : tie.Need-returns
+unfolding widthFor
+returns c = sym (ap (λ (w : Wanted). widthFor w (c .before .before .args .width)) (c .enum-told .given .1))
+
+returns-2 : tie.Need-returns-2
+unfolding widthFor
+returns-2 c = sym (ap (λ (w : Wanted). widthFor w (c .before .before .args .width)) (c .enum-told2 .given .1))
+
+returns-3 : tie.Need-returns-3
+unfolding widthFor
+returns-3 c = sym (ap (λ (w : Wanted). widthFor w (c .before .before .args .width)) (c .enum-told3 .given .1))
+
+pub width-for-spec : {M : Type 1} → statement M
+width-for-spec =
+    tie.close
+    (tie.spec enum-told enum-told-2 enum-told-3 returns returns-2 returns-3)
