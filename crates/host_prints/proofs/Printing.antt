@@ -6,14 +6,13 @@ use Prim.Native.Nat.{ℕ, _+_, _^_, _≤_, _<_}
 use native.Mathlib.Omega.{arith}
 use lib.ListN.{length, drop, length-append, length-drop}
 use Rattle.rules.specs.Refusals.{number}
-use Rattle.rules.specs.Limits.{most-bytes}
 use Rattle.rules.specs.Report.{joinedLines}
 use Rattle.rules.specs.Answers.{Reply, says, refuses, printed}
 use Rattle.rules.specs.Parts.{wholeLines, part, gathered}
 use Rattle.rules.specs.declared.Verdict.{Verdict}
 use Rattle.rules.specs.declared.Refusal.{Refusal}
 use Rattle.rules.proofs.Decimal.{decimal-length}
-use Rattle.rules.proofs.Ended.{Pieces, no-piece, piece}
+use Rattle.rules.proofs.Ended.{no-piece, piece}
 use Rattle.rules.proofs.Parts.{whole-front, part-fits, AllFit, fit-none, fit-more, gathered-all}
 use Rattle.rules.proofs.ReportLines.{refused-ended}
 use Rattle.write_parts.specs.Parts.{begun, added, addedAll, longest-line}
@@ -24,7 +23,7 @@ use Rattle.host_replies.specs.Ready.{ready, linesOf, replyOf, longest}
 use Rattle.host_replies.specs.Saying.{replyTo}
 use Rattle.host_replies.specs.declared.Ready.{Ready}
 use Rattle.host_replies.proofs.Replies.{Small, reply-is, reply-small, reply-fits}
-use Rattle.host_replies.proofs.Sayings.{reply-accepted, reply-refused, ready-pieces, lines-refused}
+use Rattle.host_replies.proofs.Sayings.{reply-accepted, reply-refused, ready-pieces}
 use Rattle.host_prints.specs.Printing.{readyFor, printing}
 
 -- ---- a refusal's line

@@ -1,17 +1,15 @@
 -- What the encoder answers for a sound listing: its code, held whole and within bounds, or 01's refusal.
-use mathlib.Core.Path.{_≡_, refl, sym, ap, _∙_, subst}
+use mathlib.Core.Path.{_≡_, refl, sym, subst}
 use mathlib.Core.Bool.{true}
-use Prim.Native.Nat.{ℕ, _-_, _^_, _≤_, _<_}
+use Prim.Native.Nat.{_-_, _^_, _≤_, _<_}
 use native.Mathlib.Omega.{arith}
 use lib.ListN.{length, replicate}
 use lib.Seq.{take-append-seam}
 use Rattle.rules.specs.Limits.{most-bits}
 use Rattle.rules.specs.Requirements.{requirements}
-use Rattle.rules.specs.Code.{Code, Coding, coded, uncoded, coding}
+use Rattle.rules.specs.Code.{Code, coded, coding}
 use Rattle.rules.specs.declared.Listing.{Listing}
 use Rattle.rules.specs.declared.Encoding.{Encoding}
-use Rattle.rules.specs.declared.Verdict.{Verdict}
-use Rattle.rules.specs.declared.Refusal.{Refusal}
 use Rattle.rules.proofs.Sound.{Sound}
 use Rattle.rules.proofs.Built.{mostOf, most-few, was-built}
 use Rattle.rules.proofs.SoundCode.{code-built}

@@ -8,7 +8,7 @@ use lib.ListN.{length}
 use Rattle.rules.specs.Limits.{most-bits}
 use Rattle.rules.specs.Listing.{reading}
 use Rattle.rules.specs.Requirements.{requirements}
-use Rattle.rules.specs.Code.{Code, Coding, coded, uncoded, coding, build}
+use Rattle.rules.specs.Code.{Coding, coded, uncoded, coding, build}
 use Rattle.rules.specs.Report.{joinedLines}
 use Rattle.rules.specs.Answers.{Reply, says, refuses, onReading, reportOf, coverOf, reportReply, coverReply}
 use Rattle.rules.specs.Widths.{withWidth, widths, widthsReply}

@@ -1,5 +1,5 @@
 -- What is written in the code of a sound listing is 01's text, within a bound, as are its lines; and a cover is withheld where 01 withholds it.
-use mathlib.Core.Path.{_≡_, refl, sym, ap, _∙_}
+use mathlib.Core.Path.{_≡_, sym, ap, _∙_}
 use mathlib.Core.Bool.{Bool, true, cond}
 use mathlib.Core.List.{List}
 use Prim.Native.Nat.{ℕ, _≤_}
@@ -11,13 +11,12 @@ use Rattle.rules.specs.Limits.{most-asked, most-bits, most-rows}
 use Rattle.rules.specs.Listing.{rowsOf}
 use Rattle.rules.specs.Requirements.{requirements, pairsAndGroups}
 use Rattle.rules.specs.Code.{coding, unmetFrom, unmet}
-use Rattle.rules.specs.Report.{joinedLines, report}
+use Rattle.rules.specs.Report.{joinedLines}
 use Rattle.rules.specs.Cover.{cover}
-use Rattle.rules.specs.Answers.{Reply, says, refuses, reportOf, coverOf, reportReply}
+use Rattle.rules.specs.Answers.{says, refuses, reportOf, coverOf, reportReply}
 use Rattle.rules.specs.Widths.{widths}
 use Rattle.rules.specs.declared.Listing.{Listing}
 use Rattle.rules.specs.declared.Encoding.{Encoding}
-use Rattle.rules.specs.declared.Verdict.{Verdict}
 use Rattle.rules.specs.declared.Refusal.the-variants.{Unmet}
 use Rattle.rules.proofs.Sound.{rows-length}
 use Rattle.rules.proofs.Parts.{AllFit}
@@ -40,7 +39,7 @@ use Rattle.write_widths.proofs.Same.{widths-length, widths-fit}
 use Rattle.write_cover.specs.Covers.{Bounded}
 use Rattle.write_cover.proofs.Whole.{cover-bounded}
 use Rattle.write_cover.proofs.Length.{cover-length, cover-fit}
-use Rattle.write_texts.specs.Texts.{coverVerdict, verdictOf, textLines}
+use Rattle.write_texts.specs.Texts.{textLines}
 use Rattle.write_texts.specs.declared.Wanted.{Wanted}
 use Rattle.host_replies.specs.Ready.{longest}
 use Rattle.host_replies.proofs.Encodings.{Whole}

@@ -3,14 +3,14 @@
 use mathlib.Core.Path.{_≡_}
 use mathlib.Core.Logic.{_↔_}
 use mathlib.Core.Bool.{Bool}
-use mathlib.Core.List.{List, [], _∷_, map, List·Memᴰ}
+use mathlib.Core.List.{List, [], _∷_, List·Memᴰ}
 use Prim.Native.Nat.{ℕ, suc, _+_}
 use native.Mathlib.Omega.{arith}
 use lib.ListN.{length}
 use Rattle.sets.specs.Sets.{statesFrom}
 use Rattle.rules.specs.Limits.{most-bits}
 use Rattle.rules.specs.Refusals.{number}
-use Rattle.rules.specs.Text.{bytes, digit, lf, dash, nought, decimal}
+use Rattle.rules.specs.Text.{bytes, digit, lf, dash, nought}
 use Rattle.rules.specs.Requirements.{requirements, judgement}
 use Rattle.rules.specs.Code.{Code, unmet, codeOf}
 use Rattle.rules.specs.Report.{codeText, countLine, stateLine, metLine, unmetLine, metLines, reportLines, report}

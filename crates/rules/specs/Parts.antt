@@ -1,6 +1,6 @@
 -- 02, request 09: long reports are printed line by line. A part of a text is the whole lines that fit a buffer, from the byte on where the part
 -- before it ended; and what a C host gets that asks for a part.
-use mathlib.Core.Bool.{Bool, true, false, _||_, cond}
+use mathlib.Core.Bool.{Bool, _||_, cond}
 use mathlib.Core.List.{List, [], _∷_, _++_}
 use Prim.Native.Nat.{ℕ, zero, suc}
 use lib.Dec.{leb, eqb}

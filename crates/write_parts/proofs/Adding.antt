@@ -9,7 +9,7 @@ use lib.ListN.{length, drop}
 use borrow.Author.Tests.{le-leb, lt-leb}
 use Rattle.write_pen.specs.Pen.{put}
 use Rattle.write_pen.proofs.Laws.{put-length}
-use Rattle.write_parts.specs.Parts.{standing, begun, fits, added, addedAll}
+use Rattle.write_parts.specs.Parts.{standing, fits, added, addedAll}
 use Rattle.write_parts.specs.declared.Part.{Part}
 
 -- a part with the buffer that holds it

@@ -1,13 +1,12 @@
 -- Lines added to a part that begins at a byte of their text make the part that 02 asks for: the whole lines from there on that fit.
-use mathlib.Core.Path.{_≡_, refl, sym, ap, ap₂, subst, _∙_}
+use mathlib.Core.Path.{_≡_, refl, sym, ap, _∙_}
 use mathlib.Core.Bool.{Bool, true, false}
-use mathlib.Core.List.{List, [], _∷_, _++_, append-assoc, append-nil}
-use Prim.Native.Nat.{ℕ, zero, _+_, _-_, _≤_, _<_}
-use native.Mathlib.Nat.{add-zero}
+use mathlib.Core.List.{List, [], _∷_, _++_}
+use Prim.Native.Nat.{ℕ, _+_, _-_, _≤_, _<_}
 use native.Mathlib.Omega.{arith}
 use lib.Dec.{leb, ltb}
-use lib.ListN.{length, take, drop, length-append, length-drop, length-take, drop-of-length-le, take-append-drop}
-use lib.Seq.{drop-nil, drop-append-add, drop-append-le, drop-at, drop-drop, take-all}
+use lib.ListN.{length, drop, length-append, length-drop}
+use lib.Seq.{drop-nil, drop-append-add, drop-append-le}
 use borrow.Author.Tests.{leb-true, leb-false, le-ltb, lt-ltb, ltb-true, ltb-false}
 use Rattle.rules.specs.Report.{joinedLines}
 use Rattle.rules.specs.Parts.{wholeLines, part}
@@ -16,7 +15,6 @@ use Rattle.rules.proofs.Parts.{whole-first, whole-none, whole-end, whole-fits, 
 use Rattle.write_pen.specs.Pen.{put}
 use Rattle.write_pen.proofs.Laws.{put-append, put-fits, put-length}
 use Rattle.write_parts.specs.Parts.{standing, begun, fits, added, addedAll}
-use Rattle.write_parts.specs.declared.Part.{Part}
 use Rattle.write_parts.proofs.Adding.{Lent, added-none, added-passed, added-kept, added-put, all-full}
 
 -- ---- what is left of a text, put behind the first g bytes of a buffer

@@ -1,8 +1,8 @@
 -- Lines that are added to a part of a text, one after the other, with the buffer that holds it.
-use mathlib.Core.Bool.{Bool, true, false, cond}
+use mathlib.Core.Bool.{Bool, true, false, cond, not, _&&_}
 use mathlib.Core.List.{List, [], _∷_}
 use Prim.Native.Nat.{ℕ, _+_, _-_}
-use lib.Dec.{leb}
+use lib.Dec.{leb, eqb}
 use lib.ListN.{length, drop}
 use Rattle.write_pen.specs.Pen.{put}
 use Rattle.write_parts.specs.declared.Part.{Part}
@@ -18,6 +18,11 @@ begun from = standing from 0 false
 -- so many bytes more fit behind those given
 unfoldable pub fits : ℕ → ℕ → ℕ → Bool
 fits len given more = leb (given + more) len
+
+-- a part that is not full and has nothing left to pass over, so that a text of that many bytes at the most is put down whole
+unfoldable pub openFor : ℕ → ℕ → Part → Bool
+unfolding fits
+openFor most len p = not (p .full) && (eqb (p .skip) 0 && fits len (p .given) most)
 
 -- One line more. To a full part none is added; a line that is to be passed over is; any other is put behind those given, where it fits, without what of
 -- it is to be passed over, and where it does not, the part is full.

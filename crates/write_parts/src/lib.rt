@@ -1,7 +1,7 @@
 // A part of a text, line by line: what is given already is passed over, whole lines are put into a lent buffer while they fit, and from the first one on
 // that does not, nothing is.
 ghost use mathlib.Core.Path.{_≡_};
-ghost use Rattle.write_parts.specs.Parts.{begun, fits, added};
+ghost use Rattle.write_parts.specs.Parts.{begun, fits, openFor, added};
 
 // How a part stands: how many bytes of the text are still to be passed over, how many the buffer holds, and whether a line did not fit.
 pub struct Part {
@@ -29,6 +29,19 @@ fn is_room(len: usize, given: usize, more: usize) -> bool
         return false;
     }
     more <= len - given
+}
+
+// Whether a text of that many bytes at the most goes straight behind those given, into a buffer of that length: so its writer needs no buffer of its own.
+pub fn is_open(part: Part, len: usize, most: usize) -> bool
+    ensures { λ r. ⌜ r ≡ openFor most len part ⌝ }
+{
+    if part.full {
+        return false;
+    }
+    if part.skip != 0 {
+        return false;
+    }
+    is_room(len, part.given, most)
 }
 
 // The part with one line more: passed over, put down, or, where it does not fit, left out with all that follow.

@@ -1,10 +1,13 @@
 -- The lines of requirements by their judgements, as the walk that writes them meets them, and that they are the report's.
 use mathlib.Core.Path.{_≡_, refl, sym, ap, ap₂, _∙_}
+use mathlib.Core.Bool.{not}
 use mathlib.Core.List.{List, [], _∷_, _++_, map}
 use Prim.Native.Nat.{ℕ, suc, _+_, _^_, _≤_, _<_}
 use native.Mathlib.Numerals.{add-one}
+use native.Mathlib.Omega.{arith}
 use lib.ListN.{length}
-use Rattle.rules.specs.Requirements.{judgement}
+use Rattle.rules.specs.Text.{digit}
+use Rattle.rules.specs.Requirements.{judgement, isBy}
 use Rattle.rules.specs.Code.{unmetFrom}
 use Rattle.rules.specs.Report.{metLine, unmetLine, joinedLines, metLines}
 use Rattle.rules.specs.declared.Requirement.{Requirement}
@@ -19,6 +22,8 @@ use Rattle.code_walking.specs.Walking.{ahead, here, next}
 use Rattle.code_walking.specs.declared.Walk.{Walk}
 use Rattle.code_walking.proofs.Ahead.{over-none, ahead-step}
 use Rattle.code_judging.proofs.Wide.{judged-wide}
+use Rattle.write_parts.specs.Parts.{addedAll}
+use Rattle.write_parts.proofs.Adding.{Lent, added-none, all-more}
 use Rattle.write_report.specs.Report.{lineFor, linesOf}
 use Rattle.write_report.specs.declared.Listed.{Listed}
 
@@ -41,6 +46,12 @@ module _ (l : Listed) (k : ℕ) (j : Judgement) where
   unfolding lineFor
   unmet-line h e = sym (ap₂ (λ (x : Listed) (y : Judgement). lineFor x k y) h e)
 
+-- one that is not missed has no line among those that are not met
+pub none-missed : (k : ℕ) (j : Judgement) → digit (not (isBy j)) ≡ 0 → lineFor Listed.Unmet k j ≡ []
+unfolding lineFor isBy
+none-missed k (By b) e = refl
+none-missed k ByNone e = absurd (omega arith)
+
 -- ---- one line, and those behind it
 
 pub lines-behind : (l : Listed) (k : ℕ) (bits : List ℕ) (r : Requirement) (rs : List Requirement)
@@ -59,6 +70,16 @@ module _ (l : Listed) (k : ℕ) (bits fs : List ℕ) (w : Walk) where
   pub lines-end : length fs < w .at + 3 → linesOf l k bits (ahead fs w) ≡ []
   unfolding linesOf
   lines-end h = ap (linesOf l k bits) (over-none fs w h)
+
+-- one that is not missed adds nothing to the lines of those that are not met
+pub none-here : (k : ℕ) (bits fs : List ℕ) (w : Walk) → w .at + 3 ≤ length fs → w .rest < 2 ^ 64 → digit (not (isBy (judgement 64 bits (here fs w)))) ≡ 0 → (s : Lent)
+    → addedAll (linesOf Listed.Unmet k bits (ahead fs w)) s ≡ addedAll (linesOf Listed.Unmet (k + 1) bits (ahead fs (next fs w))) s
+none-here k bits fs w h fits z s =
+    let ls : List (List ℕ) = linesOf Listed.Unmet (k + 1) bits (ahead fs (next fs w)) in
+    ap (λ (ms : List (List ℕ)). addedAll ms s) (sym (lines-more Listed.Unmet k bits fs w h fits))
+    ∙ ap (λ (m : List ℕ). addedAll (m ∷ ls) s) (none-missed k (judgement 64 bits (here fs w)) z)
+    ∙ all-more [] ls s
+    ∙ ap (addedAll ls) (added-none s)
 
 -- ---- they are the report's
 

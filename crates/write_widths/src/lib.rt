@@ -1,10 +1,7 @@
 // What each width buys, line by line, from one code: a line for each width from 1 to that of the code, and the end.
 ghost use mathlib.Core.Path.{_≡_};
-ghost use mathlib.Core.Bool.{not};
 ghost use Prim.Native.Nat.{_≤_};
 ghost use lib.ListN.{length, take};
-ghost use Rattle.rules.specs.Text.{digit};
-ghost use Rattle.rules.specs.Requirements.{isBy};
 ghost use Rattle.rules.specs.Code.{unmetFrom};
 ghost use Rattle.rules.specs.Widths.{widthLine};
 ghost use Rattle.families.specs.Families.{requirementsIn};
@@ -13,18 +10,7 @@ ghost use Rattle.write_parts.specs.Parts.{added, addedAll};
 ghost use Rattle.write_report.specs.Report.{most-words};
 ghost use Rattle.write_widths.specs.Widths.{lineOf, linesTo, encodedLines};
 use rules::Encoding;
-use rules::Judgement;
 use write_parts::Part;
-
-// 1 for a requirement that no bit meets, else 0.
-fn missed(judged: Judgement) -> usize
-    ensures { λ r. ⌜ r ≡ digit (not (isBy judged)) ⌝ }
-{
-    if judged.is_met() {
-        return 0;
-    }
-    1
-}
 
 // How many of the families' requirements no bit meets.
 fn count_unmet(bits: &[u64], fs: &[u64]) -> usize
@@ -35,7 +21,7 @@ fn count_unmet(bits: &[u64], fs: &[u64]) -> usize
     let mut unmet: usize = 0;
     while !code_walking::is_over(fs, w) {
         let judged = code_judging::judge(bits, code_walking::requirement(fs, w));
-        unmet += missed(judged);
+        unmet += write_report::missed(judged);
         w = code_walking::step(fs, w);
     }
     unmet

@@ -1,11 +1,11 @@
 -- `code_drawing::draw_dichotomies` meets its contract: the dichotomies still to come, behind the words drawn, make what all of them make.
 use borrow.Author.Needs.{needs}
-use lib.ListN.{length-map, length, take, drop}
+use lib.ListN.{length, take, drop}
 use Rattle.code_drawing.specs.Drawing.{dichotomyWords, Drew}
 use Rattle.code_drawing.proofs.Growing.{drew-none, drew-more, drew-as, drew-length, drew-words}
 use Rattle.code_drawing.proofs.Words.{dichotomy-more, dichotomy-none}
 use Prim.Native.Nat.{ℕ, _≤_, _-_, _+_, _*_}
-use mathlib.Core.Path.{_≡_, refl, sym, ap, _∙_}
+use mathlib.Core.Path.{_≡_, refl, ap, _∙_}
 use mathlib.Core.List.{List, _++_}
 use native.Mathlib.Omega.{arith}
 use Rattle.code_drawing.proofs.draw_dichotomies.Statement.{statement}

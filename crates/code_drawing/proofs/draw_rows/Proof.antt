@@ -4,10 +4,10 @@ use Rattle.code_drawing.proofs.Groups.{with-length, rows-more, rows-non
 use Rattle.code_drawing.specs.Drawing.{withGroups, Drew}
 use lib.Seq.{length-take-le}
 use borrow.Author.Needs.{needs}
-use lib.ListN.{length-map, length, take, drop, getD}
+use lib.ListN.{length, take, drop, getD}
 use Rattle.code_drawing.proofs.Growing.{drew-none, drew-more, drew-as, drew-length, drew-words}
 use Prim.Native.Nat.{ℕ, _≤_, _-_, _+_, _*_}
-use mathlib.Core.Path.{_≡_, refl, sym, ap, _∙_}
+use mathlib.Core.Path.{_≡_, refl, ap, _∙_}
 use mathlib.Core.List.{List}
 use native.Mathlib.Omega.{arith}
 use Rattle.code_drawing.proofs.draw_rows.Statement.{statement}

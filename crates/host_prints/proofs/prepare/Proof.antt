@@ -1,6 +1,6 @@
 -- `host_prints::prepare` meets its contract: a listing that goes on is too long, and any other is read as it is.
-use mathlib.Core.Path.{_≡_, refl, sym, ap, _∙_}
-use mathlib.Core.Bool.{Bool, true, false, cond}
+use mathlib.Core.Path.{sym, ap, _∙_}
+use mathlib.Core.Bool.{Bool, cond}
 use borrow.Author.Needs.{needs}
 use Rattle.host_replies.specs.Ready.{ready}
 use Rattle.host_replies.specs.declared.Ready.{Ready}

@@ -1,7 +1,5 @@
 -- `host_prints::print` meets its contract: a refusal's line, or the lines of the text, from the byte asked for on.
-use mathlib.Core.Path.{_≡_, refl, sym, ap, _∙_}
-use mathlib.Core.List.{List}
-use Prim.Native.Nat.{ℕ}
+use mathlib.Core.Path.{ap, _∙_}
 use borrow.Author.Needs.{needs}
 use Rattle.rules.specs.Answers.{refuses, printed}
 use Rattle.write_parts.specs.Parts.{added, addedAll}

@@ -1,11 +1,10 @@
 -- `host_replies::prepare` meets its contract: what is read, the width, the code and the verdict are the definition's.
-use mathlib.Core.Path.{_≡_, refl, sym, ap, _∙_}
+use mathlib.Core.Path.{_≡_}
 use mathlib.Core.List.{List}
 use Prim.Native.Nat.{ℕ}
 use borrow.Author.Needs.{needs}
 use Rattle.rules.specs.Listing.{reading}
 use Rattle.rules.specs.Widths.{withWidth}
-use Rattle.rules.specs.declared.Listing.{Listing}
 use Rattle.rules.specs.declared.Encoding.{Encoding}
 use Rattle.rules.specs.declared.Reading.{Reading}
 use Rattle.rules.specs.declared.Verdict.{Verdict}

@@ -1,7 +1,5 @@
 -- `host_replies::say_from` meets its contract: a refusal, 10 where nothing is given and something is left, or the part.
-use mathlib.Core.Path.{_≡_, refl, sym, ap, _∙_}
-use mathlib.Core.Bool.{false}
-use native.Mathlib.Omega.{arith}
+use mathlib.Core.Path.{_≡_, ap, _∙_}
 use borrow.Author.Needs.{needs}
 use Rattle.write_parts.specs.Parts.{begun, addedAll}
 use Rattle.write_parts.specs.declared.Part.{Part}

@@ -1,5 +1,5 @@
 -- `host_replies::say_whole` meets its contract: a refusal, 10 where the text is longer than the buffer, or the text.
-use mathlib.Core.Path.{_≡_, refl, sym, ap, _∙_}
+use mathlib.Core.Path.{sym, ap, _∙_}
 use borrow.Author.Needs.{needs}
 use Rattle.write_parts.specs.Parts.{addedAll}
 use Rattle.write_parts.specs.declared.Part.{Part}

@@ -1,5 +1,5 @@
 -- `host_replies::verdict_on` meets its contract: the first refusal decides.
-use mathlib.Core.Path.{_≡_, refl, sym, ap, _∙_}
+use mathlib.Core.Path.{_≡_, sym, ap, _∙_}
 use Prim.Native.Nat.{ℕ}
 use borrow.Author.Needs.{needs}
 use Rattle.rules.specs.declared.Listing.{Listing}

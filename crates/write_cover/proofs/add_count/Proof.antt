@@ -1,5 +1,4 @@
 -- `write_cover::add_count` meets its contract: the line fits the buffer that it is written to.
-use mathlib.Core.Path.{_≡_, sym}
 use Prim.Native.Nat.{_≤_}
 use native.Mathlib.Omega.{arith}
 use borrow.Author.Needs.{needs}

@@ -1,6 +1,5 @@
 -- `write_cover::add_row` meets its contract: the line fits the buffer that it is written to.
 use Prim.Native.Nat.{_≤_}
-use native.Mathlib.Omega.{arith}
 use borrow.Author.Needs.{needs}
 use lib.ListN.{length}
 use Rattle.write_faces.specs.Faces.{rowText}

@@ -1,29 +1,16 @@
 -- `write_parts::add_line` meets its contract: one of the four ways that a line can go.
-use mathlib.Core.Path.{_≡_, refl, sym, ap, ap₂, _∙_}
-use mathlib.Core.Bool.{Bool, true, false}
-use mathlib.Core.List.{List}
-use Prim.Native.Nat.{ℕ, _+_, _-_, _≤_, _<_}
+use mathlib.Core.Path.{sym, _∙_}
+use Prim.Native.Nat.{_-_}
 use native.Mathlib.Omega.{arith}
 use borrow.Author.Needs.{needs}
-use borrow.Author.Tests.{leb-true, not-true, not-false}
+use borrow.Author.Tests.{not-true, not-false}
 use lib.ListN.{length, drop, length-drop}
 use lib.Seq.{take-all}
-use Rattle.write_pen.specs.Pen.{Wrote}
 use Rattle.write_pen.proofs.Laws.{wrote-as}
-use Rattle.write_parts.specs.Parts.{standing, fits, added}
-use Rattle.write_parts.specs.declared.Part.{Part}
-use Rattle.write_parts.proofs.Adding.{added-full, added-passed, added-kept, added-put}
+use Rattle.write_parts.proofs.Adding.{added-full, added-passed, added-kept}
+use Rattle.write_parts.proofs.Lines.{put-down}
 use Rattle.write_parts.proofs.add_line.Statement.{statement}
 use Rattle.write_parts.proofs.add_line.Tie as tie
-
--- what was written of a line is what was left of it
-put-down : (l out after : List ℕ) (p : Part) {end : ℕ} → p .full ≡ false → p .skip < length l → fits (length out) (p .given) (length l - p .skip) ≡ true
-    → Wrote out (p .given) (drop (p .skip) l) end after → (standing 0 end false, after) ≡ added l (p, out)
-unfolding fits
-put-down l out after p {end} f h k w =
-    let room : p .given + (length l - p .skip) ≤ length out = leb-true (p .given + (length l - p .skip)) (length out) k in
-    let e : end ≡ p .given + (length l - p .skip) = omega (arith, w .ends, length-drop (p .skip) l, w .within) in
-    ap₂ (λ (n : ℕ) (o : List ℕ). (standing 0 n false, o)) e (w .holds) ∙ sym (added-put l out p f h k)
 
 returns : tie.Need-returns
 returns c = let a = c .before .before .before .args in sym (added-full (a .line .now) (a .out .now) (a .part) (c .if1 .taken))

@@ -1,6 +1,6 @@
 -- `write_report::add_report` meets its contract: lines of each kind, one kind behind the other.
-use mathlib.Core.Path.{_≡_, refl, sym, ap, _∙_}
-use mathlib.Core.List.{List, [], _∷_, _++_}
+use mathlib.Core.Path.{_≡_, sym, ap, _∙_}
+use mathlib.Core.List.{List, [], _∷_}
 use Prim.Native.Nat.{_≤_}
 use native.Mathlib.Omega.{arith}
 use borrow.Author.Needs.{needs}
@@ -8,7 +8,6 @@ use lib.ListN.{length, take, length-map, length-take}
 use lib.Seq.{length-take-le}
 use Rattle.rules.specs.Limits.{most-bits}
 use Rattle.rules.specs.Text.{bytes}
-use Rattle.rules.specs.Report.{countLine}
 use Rattle.families.specs.Families.{requirementsIn}
 use Rattle.write_parts.specs.Parts.{addedAll}
 use Rattle.write_parts.proofs.Adding.{Lent, all-one, all-first, all-behind, all-length}
@@ -69,14 +68,14 @@ add-listed-requires c κs = few (c .before .before .before .before .before .befo
 array-share-prefix-bits-3 : tie.Need-array-share-prefix-bits-3
 array-share-prefix-bits-3 c = wide (c .before .before .before .before .before .before .before .before .before .before .before .before .before .before .before .before .before)
 
-slice-aggregate-add-listed-3 : tie.Need-slice-aggregate-add-listed-3
-slice-aggregate-add-listed-3 c = sym (length-take-le _ _ (wide (c .before .before .before .before .before .before .before .before .before .before .before .before .before .before .before .before .before .before)))
+slice-aggregate-add-unmet : tie.Need-slice-aggregate-add-unmet
+slice-aggregate-add-unmet c = sym (length-take-le _ _ (wide (c .before .before .before .before .before .before .before .before .before .before .before .before .before .before .before .before .before .before)))
 
-slice-aggregate-add-listed-4 : tie.Need-slice-aggregate-add-listed-4
-slice-aggregate-add-listed-4 c = sym (length-take-le _ _ (some (c .before .before .before .before .before .before .before .before .before .before .before .before .before .before .before .before .before .before .before)))
+slice-aggregate-add-unmet-2 : tie.Need-slice-aggregate-add-unmet-2
+slice-aggregate-add-unmet-2 c = sym (length-take-le _ _ (some (c .before .before .before .before .before .before .before .before .before .before .before .before .before .before .before .before .before .before .before)))
 
-add-listed-requires-2 : tie.Need-add-listed-requires-2
-add-listed-requires-2 c κs = few (c .before .before .before .before .before .before .before .before .before .before .before .before .before .before .before .before .before .before .before)
+add-unmet-requires : tie.Need-add-unmet-requires
+add-unmet-requires c κs = (few (c .before .before .before .before .before .before .before .before .before .before .before .before .before .before .before .before .before .before .before), c .before .before .before .before .before .add-listed .ensures .1)
 
 slice-aggregate-add-line : tie.Need-slice-aggregate-add-line
 slice-aggregate-add-line c = search needs
@@ -98,8 +97,8 @@ whole c =
     let rs = requirementsIn (take (k .least2 .result) (s .args .fs .now)) in
     all-first _ _ _ _ _ (count .add-counts .ensures)
     (all-behind (stateLines bits (s .args .n)) _ _ _ _ (states .add-states .ensures)
-    (all-behind (linesOf Listed.Met 0 bits rs) _ _ _ _ (met .add-listed .ensures)
-    (all-behind (linesOf Listed.Unmet 0 bits rs) (bytes "EN\n" ∷ []) _ _ _ (unmet .add-listed2 .ensures) (c .before .before .add-line .ensures ∙ sym (all-one (bytes "EN\n") _)))))
+    (all-behind (linesOf Listed.Met 0 bits rs) _ _ _ _ (met .add-listed .ensures .0)
+    (all-behind (linesOf Listed.Unmet 0 bits rs) (bytes "EN\n" ∷ []) _ _ _ (unmet .add-unmet .ensures) (c .before .before .add-line .ensures ∙ sym (all-one (bytes "EN\n") _)))))
     ∙ ap (λ (ls : List (List _)). addedAll ls (s .args .part, s .args .out .now)) (report-parts (s .args .n) (s .args .fs .now) (s .args .e) (long s) (k .before .least .ensures) (k .least2 .ensures))
 
 same-length : tie.Need-same-length
@@ -125,9 +124,9 @@ add-report-spec =
     slice-aggregate-add-listed-2
     add-listed-requires
     array-share-prefix-bits-3
-    slice-aggregate-add-listed-3
-    slice-aggregate-add-listed-4
-    add-listed-requires-2
+    slice-aggregate-add-unmet
+    slice-aggregate-add-unmet-2
+    add-unmet-requires
     slice-aggregate-add-line
     add-line-requires
     same-length

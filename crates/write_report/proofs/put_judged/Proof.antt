@@ -1,14 +1,10 @@
 -- `write_report::put_judged` meets its contract, by the list that is wanted and by the judgement.
 use Rattle.write_pen.proofs.Laws.{wrote-none, wrote-as}
 use Rattle.write_report.proofs.Judged.{met-line, unmet-line, no-met-line, no-unmet-line}
-use mathlib.Core.Path.{sym, _∙_}
 use native.Mathlib.Omega.{arith}
 use borrow.Author.Needs.{needs}
 use Rattle.write_report.proofs.put_judged.Statement.{statement}
 use Rattle.write_report.proofs.put_judged.Tie as tie
-
-judge-requires : tie.Need-judge-requires
-judge-requires c κs = search needs
 
 enum-known-judged : tie.Need-enum-known-judged
 enum-known-judged c = search needs
@@ -39,40 +35,31 @@ same-length c = search needs
 
 returns : tie.Need-returns
 returns c =
-    let a = c .before .before .before .before .before .before .before .before .before .before .before .before .args in
-    let j = c .before .before .before .before .before .before .before .before .before .judge in
-    wrote-as (c .before .before .put-met-line .ensures)
-    (met-line _ (a .number .0) _ _ (c .before .before .before .before .enum-told .given .1) (sym (j .ensures) ∙ c .before .before .before .before .before .before .before .judged .given .1))
+    let l = c .before .before .before .before in
+    wrote-as (c .before .before .put-met-line .ensures) (met-line _ _ _ _ (l .enum-told .given .1) (l .before .before .before .judged .given .1))
 
 returns-2 : tie.Need-returns-2
 returns-2 c =
-    let s = c .before .before .before .before .before .before .before .before in
-    let a = s .args in
-    let j = c .before .before .before .before .before .judge in
-    wrote-as (wrote-none (a .out .now) (a .at) (omega arith) (omega arith)) (no-unmet-line _ (a .number .0) _ _ (c .enum-told2 .given .1) (sym (j .ensures) ∙ c .before .before .before .judged .given .1))
+    let a = c .before .before .before .before .before .before .args in
+    wrote-as (wrote-none (a .out .now) (a .at) (omega arith) (omega arith)) (no-unmet-line _ _ _ _ (c .enum-told2 .given .1) (c .before .before .before .judged .given .1))
 
 returns-3 : tie.Need-returns-3
 returns-3 c =
-    let s = c .before .before .before .before .before .before .before in
-    let a = s .args in
-    let j = c .before .before .before .before .judge in
-    wrote-as (wrote-none (a .out .now) (a .at) (omega arith) (omega arith)) (no-met-line _ (a .number .0) _ (c .enum-told4 .given .1) (sym (j .ensures) ∙ c .before .before .enum-told3 .given .1))
+    let a = c .before .before .before .before .before .args in
+    wrote-as (wrote-none (a .out .now) (a .at) (omega arith) (omega arith)) (no-met-line _ _ _ (c .enum-told4 .given .1) (c .before .before .enum-told3 .given .1))
 
 same-length-2 : tie.Need-same-length-2
 same-length-2 c = search needs
 
 returns-4 : tie.Need-returns-4
 returns-4 c =
-    let p = c .before .before .before .before in
-    let a = p .before .before .before .before .before .before .before .args in
-    let j = p .before .before .before .before .judge in
-    wrote-as (c .before .before .put-unmet-line .ensures) (unmet-line _ (a .number .0) _ (p .enum-told5 .given .1) (sym (j .ensures) ∙ p .before .before .enum-told3 .given .1))
+    let l = c .before .before .before .before in
+    wrote-as (c .before .before .put-unmet-line .ensures) (unmet-line _ _ _ (l .enum-told5 .given .1) (l .before .before .enum-told3 .given .1))
 
 pub put-judged-spec : {M : Type 1} → statement M
 put-judged-spec =
     tie.close
     (tie.spec
-    judge-requires
     enum-known-judged
     enum-told
     put-met-line-requires

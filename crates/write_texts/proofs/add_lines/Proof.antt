@@ -1,7 +1,5 @@
 -- `write_texts::add_lines` meets its contract, by what is wanted.
-use mathlib.Core.Path.{_≡_, sym, ap, _∙_}
-use mathlib.Core.List.{List}
-use Prim.Native.Nat.{ℕ}
+use mathlib.Core.Path.{sym, ap, _∙_}
 use borrow.Author.Needs.{needs}
 use Rattle.write_parts.specs.Parts.{addedAll}
 use Rattle.write_texts.specs.Texts.{textLines}

@@ -1,10 +1,10 @@
--- `write_widths::missed` meets its contract.
+-- `write_report::missed` meets its contract.
 use mathlib.Core.Bool.{not, Bool}
 use Rattle.rules.specs.Text.{digit}
 use mathlib.Core.Path.{sym, ap, _∙_}
 use borrow.Author.Needs.{needs}
-use Rattle.write_widths.proofs.missed.Statement.{statement}
-use Rattle.write_widths.proofs.missed.Tie as tie
+use Rattle.write_report.proofs.missed.Statement.{statement}
+use Rattle.write_report.proofs.missed.Tie as tie
 
 is-met-requires : tie.Need-is-met-requires
 is-met-requires c κs = search needs
