@@ -37,6 +37,13 @@ static struct tally cover_part_tally = {.name = "cover part"};
 static uint64_t parts_at_end; /* calls of parts with nothing left */
 static uint64_t texts_gathered, steps_gathered;
 
+/* Covers with an output dash of each sort: kept; written 0 for a row before it and none behind it that says 1, and the other way
+   round; kept beside a row that says 1 and shares only the inputs, or only a state. */
+enum dash { DASH_KEPT, DASH_FOR_EARLIER, DASH_FOR_LATER, DASH_INPUTS_ALONE, DASH_STATES_ALONE, DASHES };
+static const char *const dash_name[DASHES] = {"kept", "0 for earlier rows alone", "0 for later rows alone",
+                                              "kept, inputs shared alone", "kept, states shared alone"};
+static uint64_t dash_covers[DASHES];
+
 static const struct entries second_entries = {"the second encoder", second_report,      second_cover,
                                               second_widths,        second_report_part, second_cover_part};
 static const struct entries library_entries = {"the library",    tsurmokan_report,      tsurmokan_cover,
@@ -365,6 +372,67 @@ static bool compare_parts(struct chance *chance, struct tally *tally, part_entry
     return answer < 0 || !chance_part(chance, 1, 8) || gather(chance, tally, library, answer);
 }
 
+/* ---- dashes in the outputs ---- */
+
+/* Notes of which sorts a dash is. */
+static void sort_dash(const struct second_machine *machine, unsigned row, unsigned place, bool sort[DASHES])
+{
+    bool earlier = false;
+    bool later = false;
+    bool inputs_alone = false;
+    bool states_alone = false;
+    for (unsigned other = 0; other < machine->rows; other++) {
+        if (machine->row[other].outputs[place] != '1')
+            continue;
+        bool inputs = second_share_input(&machine->row[row], &machine->row[other], machine->inputs);
+        bool states = second_share_state(&machine->row[row], &machine->row[other]);
+        earlier = earlier || (inputs && states && other < row);
+        later = later || (inputs && states && other > row);
+        inputs_alone = inputs_alone || (inputs && !states);
+        states_alone = states_alone || (states && !inputs);
+    }
+    bool kept = !earlier && !later;
+    sort[DASH_KEPT] |= kept;
+    sort[DASH_FOR_EARLIER] |= earlier && !later;
+    sort[DASH_FOR_LATER] |= later && !earlier;
+    sort[DASH_INPUTS_ALONE] |= kept && inputs_alone;
+    sort[DASH_STATES_ALONE] |= kept && states_alone;
+}
+
+/* The listing has a cover. */
+static void count_dashes(void)
+{
+    static struct second_machine machine;
+    bool sort[DASHES] = {false};
+    second_read_lines(listing.bytes, listing.length, &machine);
+    for (unsigned row = 0; row < machine.rows; row++)
+        for (unsigned place = 0; place < machine.outputs; place++)
+            if (machine.row[row].outputs[place] == '-')
+                sort_dash(&machine, row, place, sort);
+    for (unsigned dash = 0; dash < DASHES; dash++)
+        dash_covers[dash] += sort[dash];
+}
+
+static void print_dashes(void)
+{
+    printf("covers with an output dash:");
+    for (unsigned dash = 0; dash < DASHES; dash++)
+        printf(" %s: %llu;", dash_name[dash], (unsigned long long)dash_covers[dash]);
+    printf("\n");
+}
+
+static bool dashes_enough(void)
+{
+    bool enough = true;
+    for (unsigned dash = 0; dash < DASHES; dash++) {
+        if (dash_covers[dash] < SEEN_LEAST) {
+            printf("FAILED: only %llu covers with a dash %s\n", (unsigned long long)dash_covers[dash], dash_name[dash]);
+            enough = false;
+        }
+    }
+    return enough;
+}
+
 /* ---- one listing, all entries ---- */
 
 /* The second encoder encodes once for each width, which is dear above 32 states: of those one in 16 is compared, and of the long
@@ -392,6 +460,8 @@ static bool compare_listing(uint64_t seed, uint64_t number)
         printf("seed %llu, listing %llu\n", (unsigned long long)seed, (unsigned long long)number);
         return false;
     }
+    if (cover >= 0)
+        count_dashes();
     unsigned class = class_of(listing.states);
     by_class[class].listings++;
     by_class[class].reports += report >= 0;
@@ -671,6 +741,7 @@ int main(int words, char **word)
     print_tally(&cover_part_tally);
     printf("parts: %llu calls with nothing left; %llu texts gathered in %llu steps\n", (unsigned long long)parts_at_end,
            (unsigned long long)texts_gathered, (unsigned long long)steps_gathered);
+    print_dashes();
     printf("%llu listings of seed %llu, half of them damaged, all alike; "
            "%llu have a report and %llu a cover, given room; %llu ms\n",
            (unsigned long long)count, (unsigned long long)seed, (unsigned long long)reports,
@@ -683,6 +754,7 @@ int main(int words, char **word)
         enough = seen_enough(&cover_part_tally, "8") && enough;
         enough = parts_at_end >= SEEN_LEAST && texts_gathered >= SEEN_LEAST && enough;
         enough = trial_refused_starts >= SEEN_LEAST && trial_refused_moves >= SEEN_LEAST && enough;
+        enough = dashes_enough() && enough;
         if (!enough)
             return 1;
     }

@@ -49,6 +49,7 @@ struct draft {
     unsigned inputs;
     unsigned outputs;
     unsigned width;
+    unsigned output_dashes; /* of 4 output characters, so many are dashes */
     unsigned rows;
     struct row row[ROWS + 1];
     unsigned dichotomies;
@@ -280,6 +281,30 @@ static void avoid_clash(const struct draft *draft, struct row *row, unsigned row
     }
 }
 
+/* A row that shares an input vector and a state with the one it is made from, or would but for a place of the input or but for
+   the group, and says 1 for outputs where that one has a dash, or a dash where it has 1: what a dash is written as hangs on
+   all of these. */
+static void draw_beside(struct chance *chance, const struct draft *draft, const struct row *from, struct row *row)
+{
+    unsigned apart = chance_below(chance, 6);
+    unsigned split = chance_below(chance, draft->inputs);
+    for (unsigned place = 0; place < draft->inputs; place++)
+        if (from->input[place] != '-')
+            row->input[place] = chance_part(chance, 1, 4) ? '-' : from->input[place];
+    if (apart == 0 && from->input[split] != '-')
+        row->input[split] = from->input[split] == '0' ? '1' : '0';
+    row->group = chance_part(chance, 1, 2) ? from->group : row->group | from->group;
+    if (apart == 1 && from->group != all_states(draft))
+        row->group = all_states(draft) & ~from->group;
+    row->next = chance_part(chance, 1, 4) ? NO_STATE : from->next;
+    for (unsigned place = 0; place < draft->outputs; place++) {
+        if (from->outputs[place] == '-' && chance_part(chance, 1, 3))
+            row->outputs[place] = '1';
+        if (from->outputs[place] == '1' && chance_part(chance, draft->output_dashes, 4))
+            row->outputs[place] = '-';
+    }
+}
+
 static void draw_row(struct chance *chance, enum generate_family family, struct draft *draft, unsigned at)
 {
     static const char three[] = "01-";
@@ -290,7 +315,9 @@ static void draw_row(struct chance *chance, enum generate_family family, struct 
     row->group = draw_group(chance, draft, at);
     row->next = chance_part(chance, 1, 6) ? NO_STATE : (int)chance_below(chance, draft->states);
     for (unsigned place = 0; place < draft->outputs; place++)
-        row->outputs[place] = three[chance_below(chance, 3)];
+        row->outputs[place] = chance_part(chance, draft->output_dashes, 4) ? '-' : three[chance_below(chance, 2)];
+    if (draft->groups == ANY_GROUPS && at > 0 && chance_part(chance, 1, 5))
+        draw_beside(chance, draft, &draft->row[chance_below(chance, at)], row);
     if (family == GENERATE_CLASH && at > 0 && chance_part(chance, 1, 4)) {
         /* Nearly an earlier row, with another next state or none. */
         struct row *earlier = &draft->row[chance_below(chance, at)];
@@ -413,8 +440,10 @@ static void write_listing(struct chance *chance, const struct draft *draft, stru
 
 void generate_good(struct chance *chance, enum generate_family family, struct generated *listing)
 {
+    static const unsigned output_dashes[] = {0, 1, 1, 2};
     static struct draft draft;
     draw_sizes(chance, family, &draft);
+    draft.output_dashes = one_of(chance, output_dashes, LENGTH_OF(output_dashes));
     for (unsigned row = 0; row < draft.rows; row++)
         draw_row(chance, family, &draft, row);
     for (unsigned dichotomy = 0; dichotomy < draft.dichotomies; dichotomy++)

@@ -1,5 +1,5 @@
-/* The known answers of 01 that are whole listings: P1 to P4, P9, P10, 128 and 129 rows, and the 64 dichotomies; and parts of
-   P1's report and cover, worked by hand. */
+/* The known answers of 01 that are whole listings: P1 to P4, P9, P10, 128 and 129 rows, and the 64 dichotomies; what 02's request
+   02 says of dashes in the outputs; and parts of P1's report and cover, worked by hand. */
 #include "known.h"
 
 /* What an entry must answer: a text, or, where that is NULL, a number; the widths have the number of the report. */
@@ -16,16 +16,32 @@ struct known {
 static const struct known known[] = {
     {"P1", "MC 3 1 1 0\nPT 0 110 001 1\nPT 1 101 100 0\nEN\n",
      "CT 2 5 0 2 17\nSC 0 00\nSC 1 10\nSC 2 01\nBY 0 0\nBY 1 1\nBY 2 0\nBY 3 1\nBY 4 0\nEN\n", 0,
-     ".i 3\n.o 3\n.p 2\n0-0 011\n10- 000\n.e\n", 0, "WD 1 2 0\nWD 2 0 1\nEN\n"},
+     ".i 3\n.o 3\n.type fd\n.p 2\n0-0 011\n10- 000\n.e\n", 0, "WD 1 2 0\nWD 2 0 1\nEN\n"},
     {"P2", "MC 3 1 1 1\nPT 0 110 001 1\nPT 1 101 100 0\nEN\n",
      "CT 1 5 2 1 12\nSC 0 0\nSC 1 1\nSC 2 0\nBY 0 0\nBY 2 0\nBY 4 0\nUN 1\nUN 3\nEN\n", 0,
      NULL, -900000, "WD 1 2 0\nWD 2 0 1\nEN\n"},
     {"P3", "MC 1 1 1 0\nPT 0 1 1 1\nEN\n",
      "CT 0 0 0 0 0\nSC 0 -\nEN\n", 0,
-     ".i 1\n.o 1\n.p 1\n0 1\n.e\n", 0, "EN\n"},
+     ".i 1\n.o 1\n.type fd\n.p 1\n0 1\n.e\n", 0, "EN\n"},
     {"P4", "MC 2 1 1 0\nEN\n",
      "CT 1 1 0 1 2\nSC 0 0\nSC 1 1\nBY 0 0\nEN\n", 0,
-     ".i 2\n.o 2\n.p 0\n.e\n", 0, "WD 1 0 1\nEN\n"},
+     ".i 2\n.o 2\n.type fd\n.p 0\n.e\n", 0, "WD 1 0 1\nEN\n"},
+    /* 02, request 02: a dash beside no 1 of its output, beside one, and beside one in half of what makes rows meet. */
+    {"a dash that stays", "MC 2 1 2 0\nPT 0 10 01 1-\nPT - 10 01 00\nEN\n",
+     "CT 1 1 0 1 2\nSC 0 0\nSC 1 1\nBY 0 0\nEN\n", 0,
+     ".i 2\n.o 3\n.type fd\n.p 2\n00 11-\n-0 100\n.e\n", 0, "WD 1 0 1\nEN\n"},
+    {"a dash written 0 for an earlier row", "MC 2 1 1 0\nPT 0 10 01 1\nPT - 11 00 -\nEN\n",
+     "CT 1 1 0 1 2\nSC 0 0\nSC 1 1\nBY 0 0\nEN\n", 0,
+     ".i 2\n.o 2\n.type fd\n.p 2\n00 11\n-- 00\n.e\n", 0, "WD 1 0 1\nEN\n"},
+    {"a dash written 0 for a later row", "MC 2 1 1 0\nPT - 11 00 -\nPT 0 10 01 1\nEN\n",
+     "CT 1 1 0 1 2\nSC 0 0\nSC 1 1\nBY 0 0\nEN\n", 0,
+     ".i 2\n.o 2\n.type fd\n.p 2\n-- 00\n00 11\n.e\n", 0, "WD 1 0 1\nEN\n"},
+    {"a dash kept where only the inputs are shared", "MC 2 1 1 0\nPT 0 10 01 1\nPT - 01 10 -\nEN\n",
+     "CT 1 1 0 1 2\nSC 0 0\nSC 1 1\nBY 0 0\nEN\n", 0,
+     ".i 2\n.o 2\n.type fd\n.p 2\n00 11\n-1 0-\n.e\n", 0, "WD 1 0 1\nEN\n"},
+    {"a dash kept where only the states are shared", "MC 2 1 1 0\nPT 0 11 01 1\nPT 1 10 10 -\nEN\n",
+     "CT 1 1 0 1 2\nSC 0 0\nSC 1 1\nBY 0 0\nEN\n", 0,
+     ".i 2\n.o 2\n.type fd\n.p 2\n0- 11\n10 0-\n.e\n", 0, "WD 1 0 1\nEN\n"},
     {"P9", "MC 3 1 1 0\nPT 0 110 100 1\nPT - 010 001 1\nEN\n", NULL, -600003, NULL, -600003, NULL},
     /* P10, which 02's request 09 moves to 64 and 65, speaks of first lines alone: with a bare `EN` behind it the first is
        accepted, the second refused. Read, but with nothing behind it, the first lacks its `EN`. */
@@ -35,7 +51,7 @@ static const struct known known[] = {
     {"width 65", "MC 64 1 1 65\nEN\n", NULL, -200001, NULL, -200001, NULL},
 };
 
-/* What is left of P1's report, which has 76 bytes, or of its cover, which has 34, lent so much room: a text, or, where that is
+/* What is left of P1's report, which has 76 bytes, or of its cover, which has 43, lent so much room: a text, or, where that is
    NULL, a number. */
 static const struct known_part {
     bool cover;
@@ -68,11 +84,14 @@ static const struct known_part {
     {false, SIZE_MAX, 100, NULL, 0},
     {true, 0, 4, NULL, -1000000},
     {true, 0, 5, ".i 3\n", 0},
-    {true, 0, 100, ".i 3\n.o 3\n.p 2\n0-0 011\n10- 000\n.e\n", 0},
-    {true, 15, 8, "0-0 011\n", 0},
-    {true, 18, 5, " 011\n", 0},
-    {true, 31, 3, ".e\n", 0},
-    {true, 34, 3, NULL, 0},
+    {true, 0, 100, ".i 3\n.o 3\n.type fd\n.p 2\n0-0 011\n10- 000\n.e\n", 0},
+    {true, 10, 8, NULL, -1000000},
+    {true, 10, 13, ".type fd\n", 0},
+    {true, 10, 14, ".type fd\n.p 2\n", 0},
+    {true, 24, 8, "0-0 011\n", 0},
+    {true, 27, 5, " 011\n", 0},
+    {true, 40, 3, ".e\n", 0},
+    {true, 43, 3, NULL, 0},
     {true, SIZE_MAX, 0, NULL, 0},
 };
 
@@ -235,11 +254,11 @@ static unsigned run_dichotomies(const struct entries *encoder, const struct know
         right += answers(one->name, "cover, width 0", encoder->cover, NULL, -700000);
     } else {
         right += starts(one->name, "report, width 0", encoder->report, one->width_0);
-        right += starts(one->name, "cover, width 0", encoder->cover, ".i 65\n.o 65\n.p 0\n.e\n");
+        right += starts(one->name, "cover, width 0", encoder->cover, ".i 65\n.o 65\n.type fd\n.p 0\n.e\n");
     }
     make_dichotomies(one->states == 64 ? "MC 64 1 1 64\n" : "MC 32 1 1 64\n", one->states, one->second);
     right += starts(one->name, "report, width 64", encoder->report, one->width_64);
-    right += starts(one->name, "cover, width 64", encoder->cover, ".i 65\n.o 65\n.p 0\n.e\n");
+    right += starts(one->name, "cover, width 64", encoder->cover, ".i 65\n.o 65\n.type fd\n.p 0\n.e\n");
     return right;
 }
 
@@ -270,7 +289,7 @@ unsigned known_run(const struct entries *encoder, unsigned *checks)
 
     make_rows(128);
     right += answers("128 rows", "report", report, "CT 1 1 0 1 2\nSC 0 0\nSC 1 1\nBY 0 0\nEN\n", 0);
-    right += starts("128 rows", "cover", cover, ".i 2\n.o 2\n.p 128\n10 11\n10 11\n");
+    right += starts("128 rows", "cover", cover, ".i 2\n.o 2\n.type fd\n.p 128\n10 11\n10 11\n");
     make_rows(129);
     right += answers("129 rows", "report", report, NULL, -200130);
     right += answers("129 rows", "cover", cover, NULL, -200130);

@@ -157,8 +157,30 @@ char second_face_place(uint64_t group, uint64_t bit)
     return '-';
 }
 
-/* "A line is the input, the face, a space, the code of the next state (zeros if none), the outputs"; an output dash "is
-   written as `0` in the cover". */
+/* Whether the row "shares an input vector and a state with a row that says 1 for that output" (02, request 02), a row before
+   it or behind it (reading 22). */
+static bool meets_a_one(const struct second_machine *machine, const struct second_row *row, unsigned place)
+{
+    for (unsigned at = 0; at < machine->rows; at++) {
+        const struct second_row *other = &machine->row[at];
+        if (other->outputs[place] != '1')
+            continue;
+        if (second_share_input(row, other, machine->inputs) && second_share_state(row, other))
+            return true;
+    }
+    return false;
+}
+
+/* "Carry the dash through"; but "a minimiser may take a place that is both 1 and dash as free", so that a dash beside a 1 is
+   written `0`. */
+static char output_place(const struct second_machine *machine, const struct second_row *row, unsigned place)
+{
+    if (row->outputs[place] != '-')
+        return (char)row->outputs[place];
+    return meets_a_one(machine, row, place) ? '0' : '-';
+}
+
+/* "A line is the input, the face, a space, the code of the next state (zeros if none), the outputs." */
 static void write_cover_row(const struct second_machine *machine, const struct second_row *row,
                             const struct second_code *code, struct text *text)
 {
@@ -174,17 +196,19 @@ static void write_cover_row(const struct second_machine *machine, const struct s
         put_code(text, code, (unsigned)row->next);
     }
     for (unsigned place = 0; place < machine->outputs; place++)
-        put_byte(text, row->outputs[place] == '1' ? '1' : '0');
+        put_byte(text, output_place(machine, row, place));
     put_byte(text, '\n');
 }
 
-/* "Cover: `.i` (i + bits), `.o` (bits + o), `.p` (rows), a line per `PT` in order, `.e`." */
+/* "Cover: `.i` (i + bits), `.o` (bits + o), `.p` (rows), a line per `PT` in order, `.e`"; 02, request 02: "put `.type fd`
+   before `.p`", in every cover (reading 22). */
 static void write_cover(const struct second_machine *machine, const struct second_code *code, struct text *text)
 {
     put_word_number(text, ".i", machine->inputs + code->bits);
     put_byte(text, '\n');
     put_word_number(text, ".o", code->bits + machine->outputs);
     put_byte(text, '\n');
+    put_word(text, ".type fd\n");
     put_word_number(text, ".p", machine->rows);
     put_byte(text, '\n');
     for (unsigned row = 0; row < machine->rows; row++)

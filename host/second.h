@@ -1,4 +1,4 @@
-/* The second encoder: written from 01 and the readings alone, the plain way, to check the proved one against. */
+/* The second encoder: written from 01, 02 and the readings alone, the plain way, to check the proved one against. */
 #ifndef SECOND_H
 #define SECOND_H
 
@@ -101,6 +101,8 @@ int64_t second_cover_part(const uint8_t *listing, size_t listing_length, size_t 
 /* second_read.c */
 struct second_refusal second_read_head(const uint8_t *listing, size_t length, struct second_machine *machine);
 struct second_refusal second_read_lines(const uint8_t *listing, size_t length, struct second_machine *machine);
+bool second_share_input(const struct second_row *one, const struct second_row *other, unsigned inputs);
+bool second_share_state(const struct second_row *one, const struct second_row *other);
 struct second_refusal second_find_conflict(const struct second_machine *machine);
 
 /* second_code.c */

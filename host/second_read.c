@@ -242,7 +242,7 @@ struct second_refusal second_read_lines(const uint8_t *listing, size_t length, s
 }
 
 /* Some input vector agrees with both rows' inputs: no place asks 0 in one and 1 in the other. */
-static bool inputs_share(const struct second_row *one, const struct second_row *other, unsigned inputs)
+bool second_share_input(const struct second_row *one, const struct second_row *other, unsigned inputs)
 {
     for (unsigned place = 0; place < inputs; place++) {
         if (one->input[place] == '0' && other->input[place] == '1')
@@ -253,6 +253,11 @@ static bool inputs_share(const struct second_row *one, const struct second_row *
     return true;
 }
 
+bool second_share_state(const struct second_row *one, const struct second_row *other)
+{
+    return (one->group & other->group) != 0;
+}
+
 /* "two rows share an input vector and a state and name different next states"; "A row without a next state clashes with
    none." */
 static bool clash(const struct second_row *one, const struct second_row *other, unsigned inputs)
@@ -261,9 +266,7 @@ static bool clash(const struct second_row *one, const struct second_row *other, 
         return false;
     if (one->next == other->next)
         return false;
-    if ((one->group & other->group) == 0)
-        return false;
-    return inputs_share(one, other, inputs);
+    return second_share_state(one, other) && second_share_input(one, other, inputs);
 }
 
 /* "Pairs for 6 are ordered by the earlier row and then the later one, and the scan stops at the first pair that

@@ -59,9 +59,76 @@ int64_t tsurmokan_report(const uint8_t *listing, size_t listing_length, uint8_t 
     return spoil(second_report(listing, listing_length, out, out_length), listing, listing_length, out, out_length);
 }
 
+/* An output dash by a rule that is not 02's. */
+static uint8_t spoilt_dash(const struct second_machine *machine, unsigned row, unsigned place)
+{
+    if (fault(35))
+        return '-'; /* every dash kept */
+    if (fault(36))
+        return '0'; /* every dash written 0 */
+    for (unsigned other = 0; other < machine->rows; other++) {
+        if (machine->row[other].outputs[place] != '1')
+            continue;
+        if (fault(37) && other > row)
+            continue; /* only earlier rows looked at */
+        if (fault(38) && other < row)
+            continue; /* only later rows */
+        bool input = second_share_input(&machine->row[row], &machine->row[other], machine->inputs);
+        bool state = second_share_state(&machine->row[row], &machine->row[other]);
+        if ((input || fault(40)) && (state || fault(39)))
+            return '0'; /* 39: the inputs alone looked at; 40: the states alone */
+    }
+    return '-';
+}
+
+/* The outputs of a cover's rows, which end before its `.e`, from the last row to the first. */
+static void spoil_dashes(const uint8_t *listing, size_t listing_length, uint8_t *text, size_t length)
+{
+    static struct second_machine machine;
+    uint8_t *end = text + length - 3;
+    second_read_lines(listing, listing_length, &machine);
+    for (unsigned row = machine.rows; row-- > 0;) {
+        uint8_t *outputs = end - 1 - machine.outputs;
+        for (unsigned place = 0; place < machine.outputs; place++)
+            if (machine.row[row].outputs[place] == '-')
+                outputs[place] = spoilt_dash(&machine, row, place);
+        for (end = outputs; end[-1] != '\n';)
+            end--;
+    }
+}
+
+/* The byte behind the line that begins here. */
+static uint8_t *next_line(uint8_t *line)
+{
+    while (*line != '\n')
+        line++;
+    return line + 1;
+}
+
+static int64_t spoilt_cover(const uint8_t *listing, size_t listing_length, uint8_t *out, size_t out_length)
+{
+    int64_t answer = second_cover(listing, listing_length, out, out_length);
+    if (answer < 0)
+        return answer;
+    if (STAND_IN_FAULT >= 35 && STAND_IN_FAULT <= 40)
+        spoil_dashes(listing, listing_length, out, (size_t)answer);
+    uint8_t *type = next_line(next_line(out));
+    uint8_t *number = next_line(type);
+    uint8_t *rows = next_line(number);
+    if (fault(41)) { /* `.type fd` after `.p` */
+        memmove(type, number, (size_t)(rows - number));
+        memcpy(type + (rows - number), ".type fd\n", 9);
+    }
+    if (fault(42)) { /* no `.type fd` */
+        memmove(type, number, (size_t)(out + answer - number));
+        answer -= number - type;
+    }
+    return answer;
+}
+
 int64_t tsurmokan_cover(const uint8_t *listing, size_t listing_length, uint8_t *out, size_t out_length)
 {
-    return spoil(second_cover(listing, listing_length, out, out_length), listing, listing_length, out, out_length);
+    return spoil(spoilt_cover(listing, listing_length, out, out_length), listing, listing_length, out, out_length);
 }
 
 int64_t tsurmokan_widths(const uint8_t *listing, size_t listing_length, uint8_t *out, size_t out_length)
@@ -150,7 +217,7 @@ int64_t tsurmokan_report_part(const uint8_t *listing, size_t listing_length, siz
 
 int64_t tsurmokan_cover_part(const uint8_t *listing, size_t listing_length, size_t from, uint8_t *out, size_t out_length)
 {
-    return part_of(second_cover, listing, listing_length, from, out, out_length);
+    return part_of(spoilt_cover, listing, listing_length, from, out, out_length);
 }
 
 static struct second_trial held;

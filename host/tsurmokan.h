@@ -9,7 +9,7 @@
 /* ---- a listing's report and cover ---- */
 
 /* No report is longer, and no cover: a buffer of this many bytes always has room. (A line of counts, 64 lines of codes, a line for each
- * of 10,016 requirements, and the end: report-length of crates/write_report/proofs/Length.antt.) A cover has at most 22,806. */
+ * of 10,016 requirements, and the end: report-length of crates/write_report/proofs/Length.antt.) A cover has at most 22,815. */
 #define TSURMOKAN_ROOM 124799
 
 /* No line of a report or of a cover is longer, its LF included: a buffer of this many bytes has room for some part of either. */

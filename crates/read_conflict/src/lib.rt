@@ -1,31 +1,16 @@
 // The scan for two rows that clash.
 ghost use mathlib.Core.Path.{_≡_};
-ghost use Rattle.rules.specs.Listing.{shareInput, clash, conflict, rowsOf};
+ghost use Rattle.rules.specs.Listing.{clash, conflict, rowsOf};
 use rules::Listing;
 use rules::Refusal;
 use rules::Row;
 use rules::Verdict;
 
-// The 16 digits of a pattern that are inputs.
-const INPUTS: u32 = 65535;
-
-// Whether two rows share an input vector: at no input does one say 0 and the other 1.
-fn share_input(a: Row, b: Row) -> bool
-    ensures { λ r. ⌜ r ≡ shareInput a b ⌝ }
-{
-    let unlike = a.input.ones ^ b.input.ones;
-    let free = a.input.dashes | b.input.dashes;
-    unlike & !free & INPUTS == 0
-}
-
 // Whether two rows share an input vector and a state and name different next states.
 fn clashes(a: Row, b: Row) -> bool
     ensures { λ r. ⌜ r ≡ clash a b ⌝ }
 {
-    if !share_input(a, b) {
-        return false;
-    }
-    if a.group & b.group == 0 {
+    if !sharing::meet(a, b) {
         return false;
     }
     if a.next == 0 {

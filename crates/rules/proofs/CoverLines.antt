@@ -10,7 +10,7 @@ use Rattle.rules.specs.Report.{joinedLines}
 use Rattle.rules.specs.Cover.{countedLine, coverRow, coverLines, cover}
 use Rattle.rules.specs.declared.Row.{Row}
 use Rattle.rules.specs.declared.Listing.{Listing}
-use Rattle.rules.proofs.Fields.{Without, more}
+use Rattle.rules.proofs.Fields.{Without, none, more}
 use Rattle.rules.proofs.Decimal.{decimal-without}
 use Rattle.rules.proofs.Fires.{row-without}
 use Rattle.rules.proofs.Ended.{Ended, last, then, ended-behind, AllEnded, no-line, line, ended-append, ended-map, lines-first}
@@ -31,14 +31,25 @@ counted-ended c v o = ended-behind (marked c v o) last
 end-ended : Ended (bytes ".e\n")
 end-ended = then {x = dot} (λ e. omega arith) (then {x = 101} (λ e. omega arith) last)
 
+typed : Without lf (bytes ".type fd")
+typed =
+    more {x = 46} (λ e. omega arith)
+    (more {x = 116} (λ e. omega arith)
+    (more {x = 121} (λ e. omega arith)
+    (more {x = 112} (λ e. omega arith) (more {x = 101} (λ e. omega arith) (more {x = 32} (λ e. omega arith) (more {x = 102} (λ e. omega arith) (more {x = 100} (λ e. omega arith) none)))))))
+
+type-ended : Ended (bytes ".type fd\n")
+type-ended = ended-behind typed last
+
 pub cover-ended : (t : Listing) (bits : List ℕ) → AllEnded (coverLines t bits)
 unfolding coverLines
 cover-ended t bits =
     line (counted-ended 105 (t .head .inputs + length bits) (λ e. omega arith))
     (line (counted-ended 111 (length bits + t .head .outputs) (λ e. omega arith))
+    (line type-ended
     (line (counted-ended 112 (length (rowsOf t)) (λ e. omega arith))
-    (ended-append (ended-map (λ r. coverRow (t .head) bits r ++ (lf ∷ [])) (λ r. ended-behind (row-without (t .head) bits r) last) (rowsOf t))
-    (line end-ended no-line))))
+    (ended-append (ended-map (λ r. coverRow (t .head) bits (rowsOf t) r ++ (lf ∷ [])) (λ r. ended-behind (row-without (t .head) bits (rowsOf t) r) last) (rowsOf t))
+    (line end-ended no-line)))))
 
 -- ---- so the text parts into them
 
@@ -62,23 +73,26 @@ abbrev pub coverBodies : Listing → List ℕ → List (List ℕ)
 coverBodies t bits =
     (bytes ".i " ++ decimal (t .head .inputs + length bits))
     ∷ ((bytes ".o " ++ decimal (length bits + t .head .outputs))
+    ∷ (bytes ".type fd"
     ∷ ((bytes ".p " ++ decimal (length (rowsOf t)))
-    ∷ (map (coverRow (t .head) bits) (rowsOf t) ++ (bytes ".e" ∷ ([] ∷ [])))))
+    ∷ (map (coverRow (t .head) bits (rowsOf t)) (rowsOf t) ++ (bytes ".e" ∷ ([] ∷ []))))))
 
 pub cover-lines : (t : Listing) (bits : List ℕ) → linesOf (cover t bits) ≡ coverBodies t bits
 unfolding cover coverLines joinedLines
 cover-lines t bits =
-    counted-first 105 (t .head .inputs + length bits) (λ e. omega arith) (countedLine (bytes ".o ") outs ++ (countedLine (bytes ".p ") (length (rowsOf t)) ++ rows))
+    counted-first 105 (t .head .inputs + length bits) (λ e. omega arith) (countedLine (bytes ".o ") outs ++ (bytes ".type fd\n" ++ (countedLine (bytes ".p ") (length (rowsOf t)) ++ rows)))
     ∙ ap {B = List (List ℕ)} (λ ls. (bytes ".i " ++ decimal (t .head .inputs + length bits)) ∷ ls)
-    (counted-first 111 outs (λ e. omega arith) (countedLine (bytes ".p ") (length (rowsOf t)) ++ rows)
+    (counted-first 111 outs (λ e. omega arith) (bytes ".type fd\n" ++ (countedLine (bytes ".p ") (length (rowsOf t)) ++ rows))
     ∙ ap {B = List (List ℕ)} (λ ls. (bytes ".o " ++ decimal outs) ∷ ls)
+    (lines-first (bytes ".type fd\n") (countedLine (bytes ".p ") (length (rowsOf t)) ++ rows) (bytes ".type fd") refl typed
+    ∙ ap {B = List (List ℕ)} (λ ls. bytes ".type fd" ∷ ls)
     (counted-first 112 (length (rowsOf t)) (λ e. omega arith) rows
     ∙ ap {B = List (List ℕ)} (λ ls. (bytes ".p " ++ decimal (length (rowsOf t))) ∷ ls)
-    (rows-first (coverRow (t .head) bits) (row-without (t .head) bits) (rowsOf t) (bytes ".e\n" ∷ [])
-    ∙ ap (λ (ls : List (List ℕ)). map (coverRow (t .head) bits) (rowsOf t) ++ ls) last-line)))
+    (rows-first (coverRow (t .head) bits (rowsOf t)) (row-without (t .head) bits (rowsOf t)) (rowsOf t) (bytes ".e\n" ∷ [])
+    ∙ ap (λ (ls : List (List ℕ)). map (coverRow (t .head) bits (rowsOf t)) (rowsOf t) ++ ls) last-line))))
   where
     outs : ℕ
     outs = length bits + t .head .outputs
 
     rows : List ℕ
-    rows = joinedLines (map (λ r. coverRow (t .head) bits r ++ (lf ∷ [])) (rowsOf t) ++ (bytes ".e\n" ∷ []))
+    rows = joinedLines (map (λ r. coverRow (t .head) bits (rowsOf t) r ++ (lf ∷ [])) (rowsOf t) ++ (bytes ".e\n" ∷ []))

@@ -17,7 +17,7 @@ use Rattle.rules.specs.Text.{digit, lf, space, dash, nought, one, fields
 use Rattle.rules.specs.Requirements.{wholly}
 use Rattle.rules.specs.Code.{codeOf}
 use Rattle.rules.specs.Report.{digits}
-use Rattle.rules.specs.Cover.{faceAt, face, inputAt, nextCode, outputAt, coverRow, fires, takes, vector, lineFires}
+use Rattle.rules.specs.Cover.{faceAt, face, inputAt, nextCode, saysOne, saysDash, sharesOne, outputAt, coverRow, fires, takes, vector, lineFires}
 use Rattle.rules.specs.declared.Row.{Row}
 use Rattle.rules.specs.declared.Head.{Head}
 use Rattle.sets.proofs.SizeMembers.{outside-or-member}
@@ -31,12 +31,12 @@ abbrev pub inputSide : Head → List ℕ → Row → List ℕ
 inputSide h bits r = map (inputAt r) (statesFrom 0 (h .inputs)) ++ face (h .states) bits (r .group)
 
 -- the code of the next state and the outputs
-abbrev pub outputSide : Head → List ℕ → Row → List ℕ
-outputSide h bits r = digits (nextCode bits (r .next)) ++ map (outputAt r) (statesFrom 0 (h .outputs))
+abbrev pub outputSide : Head → List ℕ → List Row → Row → List ℕ
+outputSide h bits rs r = digits (nextCode bits (r .next)) ++ map (outputAt rs r) (statesFrom 0 (h .outputs))
 
-row-sides : (h : Head) (bits : List ℕ) (r : Row) → coverRow h bits r ≡ inputSide h bits r ++ (space ∷ outputSide h bits r)
+row-sides : (h : Head) (bits : List ℕ) (rs : List Row) (r : Row) → coverRow h bits rs r ≡ inputSide h bits r ++ (space ∷ outputSide h bits rs r)
 unfolding coverRow
-row-sides h bits r = sym (append-assoc (map (inputAt r) (statesFrom 0 (h .inputs))) (face (h .states) bits (r .group)) (space ∷ outputSide h bits r))
+row-sides h bits rs r = sym (append-assoc (map (inputAt r) (statesFrom 0 (h .inputs))) (face (h .states) bits (r .group)) (space ∷ outputSide h bits rs r))
 
 -- characters are dashes and digits, which come behind the space and LF
 input-high : (r : Row) (j : ℕ) → dash ≤ inputAt r j
@@ -55,30 +55,39 @@ face-high n g b = go (wholly n b 0 g) (wholly n b 1 g)
     go false true = omega arith
     go false false = omega arith
 
-module _ (q : ℕ) (low : q < dash) (h : Head) (bits : List ℕ) (r : Row) where
+output-high : (rs : List Row) (r : Row) (j : ℕ) → dash ≤ outputAt rs r j
+unfolding outputAt
+output-high rs r j = go (saysOne j r) (saysDash j r && not (sharesOne rs r j))
+  where
+    go : (t u : Bool) → dash ≤ cond t one (cond u dash nought)
+    go true u = omega arith
+    go false true = omega arith
+    go false false = omega arith
+
+module _ (q : ℕ) (low : q < dash) (h : Head) (bits : List ℕ) (rs : List Row) (r : Row) where
   input-side-without : Without q (inputSide h bits r)
   input-side-without =
       without-append
       (without-map q (inputAt r) (statesFrom 0 (h .inputs)) (λ j e. omega (arith, input-high r j)))
       (without-map q (faceAt (h .states) (r .group)) bits (λ b e. omega (arith, face-high (h .states) (r .group) b)))
 
-  output-side-without : Without q (outputSide h bits r)
+  output-side-without : Without q (outputSide h bits rs r)
   output-side-without =
       without-append
       (without-map q (λ d. nought + d) (nextCode bits (r .next)) (λ d e. omega arith))
-      (without-map q (outputAt r) (statesFrom 0 (h .outputs)) (λ j e. omega arith))
+      (without-map q (outputAt rs r) (statesFrom 0 (h .outputs)) (λ j e. omega (arith, output-high rs r j)))
 
-pub cover-fields : (h : Head) (bits : List ℕ) (r : Row) → fieldsOf (coverRow h bits r) ≡ inputSide h bits r ∷ (outputSide h bits r ∷ [])
-cover-fields h bits r =
-    ap fieldsOf (row-sides h bits r)
-    ∙ split-part space (inputSide h bits r) (outputSide h bits r) (input-side-without space (omega arith) h bits r)
-    ∙ ap {B = List (List ℕ)} (λ l. inputSide h bits r ∷ l) (split-last space (outputSide h bits r) (output-side-without space (omega arith) h bits r))
+pub cover-fields : (h : Head) (bits : List ℕ) (rs : List Row) (r : Row) → fieldsOf (coverRow h bits rs r) ≡ inputSide h bits r ∷ (outputSide h bits rs r ∷ [])
+cover-fields h bits rs r =
+    ap fieldsOf (row-sides h bits rs r)
+    ∙ split-part space (inputSide h bits r) (outputSide h bits rs r) (input-side-without space (omega arith) h bits rs r)
+    ∙ ap {B = List (List ℕ)} (λ l. inputSide h bits r ∷ l) (split-last space (outputSide h bits rs r) (output-side-without space (omega arith) h bits rs r))
 
 -- no LF in a row
-pub row-without : (h : Head) (bits : List ℕ) (r : Row) → Without lf (coverRow h bits r)
-row-without h bits r =
-    rw (row-sides h bits r)
-    (without-append (input-side-without lf (omega arith) h bits r) (more (λ e. omega arith) (output-side-without lf (omega arith) h bits r)))
+pub row-without : (h : Head) (bits : List ℕ) (rs : List Row) (r : Row) → Without lf (coverRow h bits rs r)
+row-without h bits rs r =
+    rw (row-sides h bits rs r)
+    (without-append (input-side-without lf (omega arith) h bits rs r) (more (λ e. omega arith) (output-side-without lf (omega arith) h bits rs r)))
 
 -- ---- when it fires
 
@@ -128,12 +137,12 @@ inputs-take r i x = takes-states (inputAt r) (has x) asked 0 i (λ j k e. input-
     asked j = eqb (has (r .input .dashes) j) 1 || eqb (has (r .input .ones) j) (has x j)
 
 -- at an input vector x and a state's code, exactly when the row fires at x and the state; the group has a member m
-pub row-fires : (h : Head) (bits : List ℕ) (r : Row) → r .group < 2 ^ h .states → (m : ℕ) → m < h .states → has (r .group) m ≡ 1
+pub row-fires : (h : Head) (bits : List ℕ) (rs : List Row) (r : Row) → r .group < 2 ^ h .states → (m : ℕ) → m < h .states → has (r .group) m ≡ 1
     → Distinct (h .states) bits → GroupMet (h .states) bits (r .group)
-    → (x s : ℕ) → s < h .states → lineFires (coverRow h bits r) (vector (h .inputs) x ++ codeOf bits s) ≡ fires h r x s
+    → (x s : ℕ) → s < h .states → lineFires (coverRow h bits rs r) (vector (h .inputs) x ++ codeOf bits s) ≡ fires h r x s
 unfolding lineFires fires
-row-fires h bits r fits m k e distinct met x s l =
-    ap (λ (fs : List (List ℕ)). takes (getD fs 0 []) (vector (h .inputs) x ++ codeOf bits s)) (cover-fields h bits r)
+row-fires h bits rs r fits m k e distinct met x s l =
+    ap (λ (fs : List (List ℕ)). takes (getD fs 0 []) (vector (h .inputs) x ++ codeOf bits s)) (cover-fields h bits rs r)
     ∙ takes-append (map (inputAt r) ss) (vector (h .inputs) x) (face (h .states) bits (r .group)) (codeOf bits s) as-long
     ∙ ap₂ _&&_ (inputs-take r (h .inputs) x) (face-takes (h .states) bits (r .group) fits m k e distinct met s l)
   where

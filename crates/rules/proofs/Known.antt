@@ -94,15 +94,15 @@ pub cases : List Case
 unfolding p1 p2 p3 p4 p5 p6 p7 p9
 cases =
     reports p1 "CT 2 5 0 2 17\nSC 0 00\nSC 1 10\nSC 2 01\nBY 0 0\nBY 1 1\nBY 2 0\nBY 3 1\nBY 4 0\nEN\n"
-    ∷ covers p1 ".i 3\n.o 3\n.p 2\n0-0 011\n10- 000\n.e\n"
+    ∷ covers p1 ".i 3\n.o 3\n.type fd\n.p 2\n0-0 011\n10- 000\n.e\n"
     ∷ reports p2 "CT 1 5 2 1 12\nSC 0 0\nSC 1 1\nSC 2 0\nBY 0 0\nBY 2 0\nBY 4 0\nUN 1\nUN 3\nEN\n"
     ∷ covers p2 "NO 9 0\n"
     ∷ buys p2 "WD 1 2 0\nWD 2 0 1\nEN\n"
     ∷ reports p3 "CT 0 0 0 0 0\nSC 0 -\nEN\n"
     ∷ buys p3 "EN\n"
-    ∷ covers p3 ".i 1\n.o 1\n.p 1\n0 1\n.e\n"
+    ∷ covers p3 ".i 1\n.o 1\n.type fd\n.p 1\n0 1\n.e\n"
     ∷ reports p4 "CT 1 1 0 1 2\nSC 0 0\nSC 1 1\nBY 0 0\nEN\n"
-    ∷ covers p4 ".i 2\n.o 2\n.p 0\n.e\n"
+    ∷ covers p4 ".i 2\n.o 2\n.type fd\n.p 0\n.e\n"
     ∷ faces p5 "1011" "-0-"
     ∷ faces p5 "1010" "-01"
     ∷ faces p5 "0111" "1--"

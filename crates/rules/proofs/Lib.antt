@@ -1,3 +1,5 @@
+pub mod Rows
+pub mod Some
 pub mod Known
 pub mod Or
 pub mod Ways
@@ -23,12 +25,14 @@ pub mod Fires
 pub mod Granted
 pub mod Characters
 pub mod SoundLines
+pub mod Sharing
 pub mod Sound
 pub mod Most
 pub mod Ended
 pub mod ReportLines
 pub mod CoverLines
 pub mod Written
+pub mod Agreeing
 pub mod Reported
 pub mod Parts
 pub mod Wider

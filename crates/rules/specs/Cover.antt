@@ -1,4 +1,4 @@
--- 01, "Report and cover": the face of a group (002), the cover's bytes, and when a row fires in the listing and in the cover.
+-- 01, "Report and cover", and 02, request 02: the face of a group (002), the cover's bytes, and when a row fires in the listing and in the cover.
 use mathlib.Core.Bool.{Bool, true, false, _&&_, _||_, not, cond}
 use mathlib.Core.List.{List, [], _∷_, _++_, map}
 use Prim.Native.Nat.{ℕ, _+_}
@@ -7,7 +7,7 @@ use lib.Dec.{eqb}
 use lib.Bits.{bitAnd}
 use Rattle.sets.specs.Sets.{has, every, statesFrom}
 use Rattle.rules.specs.Text.{bytes, digit, lf, space, dash, nought, one, decimal, fieldAt, split}
-use Rattle.rules.specs.Listing.{rowsOf}
+use Rattle.rules.specs.Listing.{rowsOf, some, meets}
 use Rattle.rules.specs.Requirements.{wholly}
 use Rattle.rules.specs.Report.{digits, joinedLines}
 use Rattle.rules.specs.declared.Row.{Row}
@@ -34,31 +34,45 @@ inputAt r j = cond (eqb (has (r .input .dashes) j) 1) dash (nought + has (r .inp
 abbrev pub nextCode : List ℕ → ℕ → List ℕ
 nextCode bits next = map (λ b. digit (not (eqb (bitAnd b next) 0))) bits
 
--- output j, a dash as 0
-abbrev pub outputAt : Row → ℕ → ℕ
-outputAt r j = nought + has (r .outputs .ones) j
+-- of output j a row says 1, or dash
+abbrev pub saysOne : ℕ → Row → Bool
+saysOne j r = eqb (has (r .outputs .ones) j) 1
+
+abbrev pub saysDash : ℕ → Row → Bool
+saysDash j r = eqb (has (r .outputs .dashes) j) 1
+
+-- a row shares an input vector and a state with a row, earlier or later, that says 1 for output j
+unfoldable pub sharesOne : List Row → Row → ℕ → Bool
+unfolding some meets
+sharesOne rs r j = some (λ q. meets r q && saysOne j q) rs
+
+-- output j of a row of these: a dash is carried through, but it is written 0 where the row shares with one that says 1
+unfoldable pub outputAt : List Row → Row → ℕ → ℕ
+unfolding sharesOne
+outputAt rs r j = cond (saysOne j r) one (cond (saysDash j r && not (sharesOne rs r j)) dash nought)
 
 -- the input, the face, a space, the code of the next state, the outputs
-unfoldable pub coverRow : Head → List ℕ → Row → List ℕ
-unfolding faceAt statesFrom
-coverRow h bits r =
+unfoldable pub coverRow : Head → List ℕ → List Row → Row → List ℕ
+unfolding faceAt statesFrom outputAt
+coverRow h bits rs r =
     map (inputAt r) (statesFrom 0 (h .inputs))
     ++ (face (h .states) bits (r .group)
     ++ (space ∷ (digits (nextCode bits (r .next))
-    ++ map (outputAt r) (statesFrom 0 (h .outputs)))))
+    ++ map (outputAt rs r) (statesFrom 0 (h .outputs)))))
 
 -- a mark, and a number of the whole cover
 abbrev pub countedLine : List ℕ → ℕ → List ℕ
 countedLine mark v = mark ++ (decimal v ++ (lf ∷ []))
 
--- `.i` (i + bits), `.o` (bits + o), `.p` (rows), a line per row in order, `.e`
+-- `.i` (i + bits), `.o` (bits + o), `.type fd`, `.p` (rows), a line per row in order, `.e`
 unfoldable pub coverLines : Listing → List ℕ → List (List ℕ)
 unfolding coverRow decimal
 coverLines t bits =
     countedLine (bytes ".i ") (t .head .inputs + length bits)
     ∷ (countedLine (bytes ".o ") (length bits + t .head .outputs)
+    ∷ (bytes ".type fd\n"
     ∷ (countedLine (bytes ".p ") (length (rowsOf t))
-    ∷ (map (λ r. coverRow (t .head) bits r ++ (lf ∷ [])) (rowsOf t) ++ (bytes ".e\n" ∷ []))))
+    ∷ (map (λ r. coverRow (t .head) bits (rowsOf t) r ++ (lf ∷ [])) (rowsOf t) ++ (bytes ".e\n" ∷ [])))))
 
 unfoldable pub cover : Listing → List ℕ → List ℕ
 unfolding coverLines joinedLines

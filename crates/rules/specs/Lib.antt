@@ -10,6 +10,7 @@ pub mod OneBit
 pub mod Code
 pub mod Report
 pub mod Cover
+pub mod Meaning
 pub mod Answers
 pub mod Parts
 pub mod Widths

@@ -156,20 +156,25 @@ readLines k t (l ∷ (m ∷ ms)) =
 
 -- ---- the conflict
 
+-- some entry of a list has p
+unfoldable pub some : {A : Type 0} → (A → Bool) → List A → Bool
+some p [] = false
+some p (x ∷ xs) = p x || some p xs
+
 -- two rows share an input vector: at no input does one say 0 and the other 1
 unfoldable pub shareInput : Row → Row → Bool
 unfolding every
 shareInput a b = every most-inputs (λ j. eqb (has (a .input .dashes) j) 1 || (eqb (has (b .input .dashes) j) 1 || eqb (has (a .input .ones) j) (has (b .input .ones) j)))
 
--- they share an input vector and a state and name different next states; a row without a next state clashes with none
-unfoldable pub clash : Row → Row → Bool
+-- two rows share an input vector and a state
+unfoldable pub meets : Row → Row → Bool
 unfolding shareInput
-clash a b =
-    shareInput a b
-    && not (eqb (bitAnd (a .group) (b .group)) 0)
-    && not (eqb (a .next) 0)
-    && not (eqb (b .next) 0)
-    && not (eqb (a .next) (b .next))
+meets a b = shareInput a b && not (eqb (bitAnd (a .group) (b .group)) 0)
+
+-- they share both and name different next states; a row without a next state clashes with none
+unfoldable pub clash : Row → Row → Bool
+unfolding meets
+clash a b = meets a b && not (eqb (a .next) 0) && not (eqb (b .next) 0) && not (eqb (a .next) (b .next))
 
 -- the first of the rows that clashes with a: refused at its line
 unfoldable pub clashWith : Row → List Row → Verdict

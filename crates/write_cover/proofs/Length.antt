@@ -5,10 +5,10 @@ use Prim.Native.Nat.{ℕ, _+_, _*_, _^_, _≤_, _<_}
 use native.Mathlib.Omega.{arith}
 use lib.ListN.{length, length-append}
 use Rattle.rules.specs.Limits.{most-bits, most-rows}
-use Rattle.rules.specs.Text.{bytes}
+use Rattle.rules.specs.Text.{bytes, lf}
 use Rattle.rules.specs.Listing.{rowsOf}
 use Rattle.rules.specs.Report.{joinedLines}
-use Rattle.rules.specs.Cover.{countedLine, coverLines, cover}
+use Rattle.rules.specs.Cover.{countedLine, coverRow, coverLines, cover}
 use Rattle.rules.specs.declared.Head.{Head}
 use Rattle.rules.specs.declared.Row.{Row}
 use Rattle.rules.specs.declared.Listing.{Listing}
@@ -18,7 +18,8 @@ use Rattle.write_parts.specs.Parts.{longest-line}
 use Rattle.write_pen.proofs.Growing.{joined-append, joined-one}
 use Rattle.write_faces.specs.Faces.{rowText}
 use Rattle.write_faces.proofs.Length.{row-length}
-use Rattle.write_cover.specs.Covers.{rowTexts, countLines, Bounded}
+use Rattle.write_cover.specs.Covers.{keptRow, rowTexts, countLines, Bounded}
+use Rattle.write_cover.proofs.Kept.{kept-text}
 use Rattle.write_cover.proofs.Whole.{cover-text}
 
 -- ---- lines
@@ -32,14 +33,14 @@ row-few h bits r b w = omega (arith, row-length h bits r, b .inputs, b .outputs)
 
 -- ---- all of them
 
-rows-length : (h : Head) (bits : List ℕ) (rs : List Row) → Bounded h → length bits ≤ most-bits → length (joinedLines (rowTexts h bits rs)) ≤ 178 * length rs
+rows-length : (h : Head) (bits : List ℕ) (rs qs : List Row) → Bounded h → length bits ≤ most-bits → length (joinedLines (rowTexts h bits rs qs)) ≤ 178 * length qs
 unfolding rowTexts joinedLines
-rows-length h bits [] b w = omega arith
-rows-length h bits (r ∷ rs) b w =
-    let ih : length (joinedLines (rowTexts h bits rs)) ≤ 178 * length rs = rows-length h bits rs b w in
-    rw length-append (omega (arith, row-few h bits r b w))
+rows-length h bits rs [] b w = omega arith
+rows-length h bits rs (q ∷ qs) b w =
+    let ih : length (joinedLines (rowTexts h bits rs qs)) ≤ 178 * length qs = rows-length h bits rs qs b w in
+    rw length-append (omega (arith, row-few h bits (keptRow rs q) b w))
 
-counts-length : (i o p : ℕ) → i < 100 → o < 100 → p < 1000 → length (joinedLines (countLines i o p)) ≤ 19
+counts-length : (i o p : ℕ) → i < 100 → o < 100 → p < 1000 → length (joinedLines (countLines i o p)) ≤ 28
 unfolding countLines joinedLines
 counts-length i o p a b c =
     omega (
@@ -47,29 +48,33 @@ counts-length i o p a b c =
       counted-length 1 (bytes ".i ") i (omega arith) a,
       counted-length 1 (bytes ".o ") o (omega arith) b,
       counted-length 2 (bytes ".p ") p (omega arith) c,
-      length-append (countedLine (bytes ".i ") i) (countedLine (bytes ".o ") o ++ (countedLine (bytes ".p ") p ++ [])),
-      length-append (countedLine (bytes ".o ") o) (countedLine (bytes ".p ") p ++ []),
+      length-append (countedLine (bytes ".i ") i) (countedLine (bytes ".o ") o ++ (bytes ".type fd\n" ++ (countedLine (bytes ".p ") p ++ []))),
+      length-append (countedLine (bytes ".o ") o) (bytes ".type fd\n" ++ (countedLine (bytes ".p ") p ++ [])),
       length-append (countedLine (bytes ".p ") p) [],
     )
 
-pub cover-length : (t : Listing) (bits : List ℕ) → Bounded (t .head) → length (rowsOf t) ≤ most-rows → length bits ≤ most-bits → length (cover t bits) ≤ 22806
+pub cover-length : (t : Listing) (bits : List ℕ) → Bounded (t .head) → length (rowsOf t) ≤ most-rows → length bits ≤ most-bits → length (cover t bits) ≤ 22815
 unfolding cover
 cover-length t bits b r w =
     let i = t .head .inputs + length bits in
     let o = length bits + t .head .outputs in
     let c = counts-length i o (length (rowsOf t)) (omega (arith, b .inputs)) (omega (arith, b .outputs)) (omega arith) in
-    let l = rows-length (t .head) bits (rowsOf t) b w in
-    let rows : List (List ℕ) = rowTexts (t .head) bits (rowsOf t) in
-    subst (λ (ls : List (List ℕ)). length (joinedLines ls) ≤ 22806) (cover-text t bits)
+    let l = rows-length (t .head) bits (rowsOf t) (rowsOf t) b w in
+    let rows : List (List ℕ) = rowTexts (t .head) bits (rowsOf t) (rowsOf t) in
+    subst (λ (ls : List (List ℕ)). length (joinedLines ls) ≤ 22815) (cover-text t bits)
     (rw (joined-append (countLines i o (length (rowsOf t))) (rows ++ (bytes ".e\n" ∷ [])), joined-append rows (bytes ".e\n" ∷ []), joined-one (bytes ".e\n"))
     (simp length-append (omega arith)))
 
 -- ---- no line is longer than the longest
 
 pub cover-fit : (t : Listing) (bits : List ℕ) → Bounded (t .head) → length (rowsOf t) ≤ most-rows → length bits ≤ most-bits → AllFit longest-line (coverLines t bits)
-unfolding coverLines rowText
+unfolding coverLines
 cover-fit t bits b r w =
     fit-more {l = countedLine (bytes ".i ") (t .head .inputs + length bits)} (omega (arith, counted-length 1 (bytes ".i ") (t .head .inputs + length bits) (omega arith) (omega (arith, b .inputs))))
     (fit-more {l = countedLine (bytes ".o ") (length bits + t .head .outputs)} (omega (arith, counted-length 1 (bytes ".o ") (length bits + t .head .outputs) (omega arith) (omega (arith, b .outputs))))
+    (fit-more {l = bytes ".type fd\n"} (omega arith)
     (fit-more {l = countedLine (bytes ".p ") (length (rowsOf t))} (omega (arith, counted-length 2 (bytes ".p ") (length (rowsOf t)) (omega arith) (omega arith)))
-    (fit-append (fit-map longest-line (rowText (t .head) bits) (λ row. row-few (t .head) bits row b w) (rowsOf t)) (fit-more {l = bytes ".e\n"} (omega arith) fit-none))))
+    (fit-append (fit-map longest-line (λ q. coverRow (t .head) bits (rowsOf t) q ++ (lf ∷ [])) each (rowsOf t)) (fit-more {l = bytes ".e\n"} (omega arith) fit-none)))))
+  where
+    each : (q : Row) → length (coverRow (t .head) bits (rowsOf t) q ++ (lf ∷ [])) ≤ longest-line
+    each q = rw (← kept-text (t .head) bits (rowsOf t) q) (row-few (t .head) bits (keptRow (rowsOf t) q) b w)

@@ -18,26 +18,29 @@ use Rattle.rules.specs.declared.Listing.{Listing}
 use Rattle.sets.proofs.Places.{take-most}
 use Rattle.write_pen.proofs.Growing.{take-one}
 use Rattle.write_faces.specs.Faces.{rowText}
-use Rattle.write_cover.specs.Covers.{rowTexts, countLines, bounded, linesWithin, Bounded}
+use Rattle.write_cover.specs.Covers.{keptRow, rowTexts, countLines, bounded, linesWithin, Bounded}
+use Rattle.write_cover.proofs.Kept.{kept-texts}
 
 -- ---- rows
 
-pub rows-none : (h : Head) (bits : List ℕ) → rowTexts h bits [] ≡ []
+pub rows-none : (h : Head) (bits : List ℕ) (rs : List Row) → rowTexts h bits rs [] ≡ []
 unfolding rowTexts
-rows-none h bits = refl
+rows-none h bits rs = refl
 
-pub rows-more : (h : Head) (bits : List ℕ) (rs : List Row) (i : ℕ) (d : Row) → i < length rs
-    → rowTexts h bits (take (i + 1) rs) ≡ rowTexts h bits (take i rs) ++ (rowText h bits (getD rs i d) ∷ [])
+pub rows-more : (h : Head) (bits : List ℕ) (rs qs : List Row) (i : ℕ) (d : Row) → i < length qs
+    → rowTexts h bits rs (take (i + 1) qs) ≡ rowTexts h bits rs (take i qs) ++ (rowText h bits (keptRow rs (getD qs i d)) ∷ [])
 unfolding rowTexts
-rows-more h bits rs i d k = ap (map (rowText h bits)) (take-one rs i d k) ∙ map-append (rowText h bits) (take i rs) (getD rs i d ∷ [])
+rows-more h bits rs qs i d k =
+    let text : Row → List ℕ = λ q. rowText h bits (keptRow rs q) in
+    ap (map text) (take-one qs i d k) ∙ map-append text (take i qs) (getD qs i d ∷ [])
 
 -- ---- the whole cover
 
 pub cover-text : (t : Listing) (bits : List ℕ)
-    → countLines (t .head .inputs + length bits) (length bits + t .head .outputs) (length (rowsOf t)) ++ (rowTexts (t .head) bits (rowsOf t) ++ (bytes ".e\n" ∷ []))
+    → countLines (t .head .inputs + length bits) (length bits + t .head .outputs) (length (rowsOf t)) ++ (rowTexts (t .head) bits (rowsOf t) (rowsOf t) ++ (bytes ".e\n" ∷ []))
     ≡ coverLines t bits
-unfolding rowTexts rowText coverLines countLines
-cover-text t bits = refl
+unfolding rowTexts coverLines countLines
+cover-text t bits = rw (kept-texts (t .head) bits (rowsOf t) (rowsOf t))
 
 -- from the parts that a code's and a listing's arrays hold
 pub cover-parts : (t : Listing) (bits : List ℕ) (width : ℕ) {w n : ℕ}
@@ -45,7 +48,7 @@ pub cover-parts : (t : Listing) (bits : List ℕ) (width : ℕ) {w n : ℕ}
     → length (t .table) ≡ most-rows
     → w ≡ min width most-bits
     → n ≡ min (t .rows) most-rows
-    → countLines (t .head .inputs + w) (w + t .head .outputs) n ++ (rowTexts (t .head) (take w bits) (rowsOf t) ++ (bytes ".e\n" ∷ [])) ≡ coverLines t (take width bits)
+    → countLines (t .head .inputs + w) (w + t .head .outputs) n ++ (rowTexts (t .head) (take w bits) (rowsOf t) (rowsOf t) ++ (bytes ".e\n" ∷ [])) ≡ coverLines t (take width bits)
 cover-parts t bits width {w} {n} hb ht hw hn =
     let lb : length (take width bits) ≡ w = omega (arith, length-take width bits) in
     let lt : length (rowsOf t) ≡ n = omega (arith, length-take (t .rows) (t .table)) in

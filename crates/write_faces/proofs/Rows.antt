@@ -1,17 +1,16 @@
 -- A row's pieces, one character more at the end, as they are written.
 use mathlib.Core.Path.{_≡_, refl, ap, ap₂, _∙_}
 use mathlib.Core.Bool.{true, false}
-use mathlib.Core.List.{List, [], _∷_, _++_, append-assoc}
+use mathlib.Core.List.{List, [], _∷_, _++_}
 use Prim.Native.Nat.{ℕ, _+_}
 use lib.Dec.{eqb}
 use lib.Bits.{bitAnd}
 use Rattle.sets.specs.Sets.{has, statesFrom, everyone}
 use Rattle.rules.specs.Text.{nought, dash, space, lf}
-use Rattle.rules.specs.Cover.{coverRow}
 use Rattle.rules.specs.declared.Pattern.{Pattern}
 use Rattle.rules.specs.declared.Head.{Head}
 use Rattle.rules.specs.declared.Row.{Row}
-use Rattle.write_pen.specs.Pen.{digitsText, valueAt, valuesText}
+use Rattle.write_pen.specs.Pen.{valueAt, valuesText}
 use Rattle.write_pen.proofs.Growing.{bytes-one}
 use Rattle.write_faces.specs.Faces.{patternAt, patternText, faceText, nextText, rowText}
 use Rattle.write_faces.proofs.Masks.{face-value}
@@ -44,7 +43,7 @@ values-face n g {m} e (b ∷ bits) = ap₂ _∷_ (ap (λ (k : ℕ). valueAt k da
 -- ---- a row
 
 pub row-parts : (h : Head) (bits : List ℕ) (r : Row)
-    → patternText (r .input) (h .inputs) ++ (faceText (h .states) bits (r .group) ++ ((space ∷ []) ++ (nextText bits (r .next) ++ (digitsText (r .outputs .ones) (h .outputs) ++ (lf ∷ [])))))
+    → patternText (r .input) (h .inputs) ++ (faceText (h .states) bits (r .group) ++ ((space ∷ []) ++ (nextText bits (r .next) ++ (patternText (r .outputs) (h .outputs) ++ (lf ∷ [])))))
     ≡ rowText h bits r
-unfolding patternText patternAt faceText nextText digitsText rowText coverRow
-row-parts h bits r = simp append-assoc
+unfolding rowText
+row-parts h bits r = refl

@@ -4,9 +4,9 @@ use mathlib.Core.List.{List, [], _∷_, _++_, map}
 use Prim.Native.Nat.{ℕ, _+_}
 use lib.Dec.{eqb}
 use Rattle.sets.specs.Sets.{has, statesFrom}
-use Rattle.rules.specs.Text.{nought, dash, lf}
+use Rattle.rules.specs.Text.{nought, dash, space, lf}
 use Rattle.rules.specs.Report.{digits}
-use Rattle.rules.specs.Cover.{face, nextCode, coverRow, cover}
+use Rattle.rules.specs.Cover.{face, nextCode}
 use Rattle.rules.specs.declared.Pattern.{Pattern}
 use Rattle.rules.specs.declared.Head.{Head}
 use Rattle.rules.specs.declared.Row.{Row}
@@ -27,6 +27,10 @@ faceText n bits g = face n bits g
 unfoldable pub nextText : List ℕ → ℕ → List ℕ
 nextText bits next = digits (nextCode bits next)
 
--- a row's line
+-- a row's line, the outputs as the row has them
 unfoldable pub rowText : Head → List ℕ → Row → List ℕ
-rowText h bits r = coverRow h bits r ++ (lf ∷ [])
+unfolding patternText faceText nextText
+rowText h bits r =
+    patternText (r .input) (h .inputs)
+    ++ (faceText (h .states) bits (r .group)
+    ++ ((space ∷ []) ++ (nextText bits (r .next) ++ (patternText (r .outputs) (h .outputs) ++ (lf ∷ [])))))

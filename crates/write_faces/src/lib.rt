@@ -57,7 +57,7 @@ fn put_next(out: &mut [u8], at: usize, bits: &[u64], next: u64) -> usize
     write_pen::put_values(out, at, bits, next, b'1')
 }
 
-// A row's line: the input, the face, a space, the code of the next state, the outputs; a dash of the outputs is a 0.
+// A row's line: the input, the face, a space, the code of the next state, the outputs, each as the row has it.
 pub fn put_row(out: &mut [u8], at: usize, head: Head, bits: &[u64], row: Row) -> usize
     ensures { λ r. ⌜ Wrote (now (out .entry)) at (rowText head (now (bits .entry)) row) r (now (out .exit)) ⌝ }
 {
@@ -67,6 +67,6 @@ pub fn put_row(out: &mut [u8], at: usize, head: Head, bits: &[u64], row: Row) ->
     let q = put_face(out, p, head.states, bits, row.group);
     let r = write_pen::put_byte(out, q, b' ');
     let s = put_next(out, r, bits, row.next);
-    let t = write_pen::put_digits(out, s, outputs.ones as u64, head.outputs);
+    let t = put_pattern(out, s, outputs, head.outputs);
     write_pen::put_byte(out, t, b'\n')
 }

@@ -3,41 +3,34 @@ use mathlib.Core.Path.{_≡_, refl, sym, _∙_}
 use mathlib.Core.Bool.{true}
 use borrow.Author.Needs.{needs}
 use borrow.Author.Tests.{eq-eqb, ne-eqb, not-true, not-false}
-use Rattle.rules.specs.Listing.{shareInput}
+use Rattle.rules.specs.Listing.{meets}
 use Rattle.read_conflict.proofs.Scan.{clash-each}
 use Rattle.read_conflict.proofs.clashes.Statement.{statement}
 use Rattle.read_conflict.proofs.clashes.Tie as tie
 
-share-input-requires : tie.Need-share-input-requires
-share-input-requires c κs = search needs
+meet-requires : tie.Need-meet-requires
+meet-requires c κs = search needs
 
 returns : tie.Need-returns
-returns c = sym (clash-each _ _ (sym (c .before .share-input .ensures) ∙ not-true _ (c .if1 .taken)) refl refl refl refl)
+returns c = sym (clash-each _ _ (sym (c .before .meet .ensures) ∙ not-true _ (c .if1 .taken)) refl refl refl)
 
-shared : (c : tie.Else1) → shareInput (c .before .before .args .a) (c .before .before .args .b) ≡ true
-shared c = sym (c .before .share-input .ensures) ∙ not-false _ (c .if1 .left)
+met : (c : tie.Else1) → meets (c .before .before .args .a) (c .before .before .args .b) ≡ true
+met c = sym (c .before .meet .ensures) ∙ not-false _ (c .if1 .left)
 
 returns-2 : tie.Need-returns-2
-returns-2 c = sym (clash-each _ _ (shared (c .before .before .before)) (eq-eqb _ 0 (c .if2 .taken)) refl refl refl)
+returns-2 c = sym (clash-each _ _ (met (c .before .before)) (eq-eqb _ 0 (c .if2 .taken)) refl refl)
 
 returns-3 : tie.Need-returns-3
 returns-3 c =
     let g = c .before .before in
-    sym (clash-each _ _ (shared (g .before .before .before)) (ne-eqb _ 0 (g .if2 .left)) (eq-eqb _ 0 (c .if3 .taken)) refl refl)
+    sym (clash-each _ _ (met (g .before .before)) (ne-eqb _ 0 (g .if2 .left)) (eq-eqb _ 0 (c .if3 .taken)) refl)
 
 returns-4 : tie.Need-returns-4
 returns-4 c =
-    let n = c .before .before in
-    let g = n .before .before in
-    sym (clash-each _ _ (shared (g .before .before .before)) (ne-eqb _ 0 (g .if2 .left)) (ne-eqb _ 0 (n .if3 .left)) (eq-eqb _ 0 (c .if4 .taken)) refl)
-
-returns-5 : tie.Need-returns-5
-returns-5 c =
     let m = c .before .before in
-    let n = m .before .before in
-    let g = n .before .before in
-    sym (clash-each _ _ (shared (g .before .before .before)) (ne-eqb _ 0 (g .if2 .left)) (ne-eqb _ 0 (n .if3 .left)) (ne-eqb _ 0 (m .if4 .left)) refl)
+    let g = m .before .before in
+    sym (clash-each _ _ (met (g .before .before)) (ne-eqb _ 0 (g .if2 .left)) (ne-eqb _ 0 (m .if3 .left)) refl)
 
 pub clashes-spec : {M : Type 1} → statement M
 clashes-spec =
-    tie.close (tie.spec share-input-requires returns returns-2 returns-3 returns-4 returns-5)
+    tie.close (tie.spec meet-requires returns returns-2 returns-3 returns-4)

@@ -11,8 +11,10 @@ use lib.Seq.{length-take-le}
 use Rattle.sets.proofs.Places.{take-most}
 use Rattle.rules.specs.Limits.{most-bits, most-rows}
 use Rattle.rules.specs.Text.{bytes}
+use Rattle.rules.specs.Listing.{rowsOf}
 use Rattle.rules.specs.declared.Row.{Row}
-use Rattle.write_parts.specs.Parts.{addedAll}
+use Rattle.write_faces.specs.Faces.{rowText}
+use Rattle.write_parts.specs.Parts.{added, addedAll}
 use Rattle.write_parts.proofs.Adding.{Lent, all-none, all-one, all-then, all-behind, all-length}
 use Rattle.write_cover.specs.Covers.{Bounded, rowTexts}
 use Rattle.write_cover.proofs.Whole.{rows-none, rows-more, cover-parts, bounded-head, cover-bounded, cover-beyond}
@@ -20,7 +22,7 @@ use Rattle.write_cover.proofs.add_cover.Statement.{statement}
 use Rattle.write_cover.proofs.add_cover.Tie as tie
 
 abbrev Inv-loop : tie.InvT-loop
-Inv-loop out₀ width t bits w n to₀ i₀ t13 out to i = (i ≤ n) × (_≡_ {A = Lent} (to, out) (addedAll (rowTexts (t .head) (take w bits) (take i (t .table))) (to₀, out₀)))
+Inv-loop out₀ width t bits w n to₀ i₀ t13 out to i = (i ≤ n) × (_≡_ {A = Lent} (to, out) (addedAll (rowTexts (t .head) (take w bits) (rowsOf t) (take i (t .table))) (to₀, out₀)))
 
 abbrev μ-loop : tie.MeasureT-loop
 μ-loop out₀ width t bits w n to₀ i₀ t13 out to i = n - i
@@ -63,7 +65,7 @@ add-counts-requires c κs = search needs
 loop-holds : tie.Need-loop-holds Inv-loop μ-loop
 loop-holds c =
     let counts = c .before .before .add-counts in
-    (search needs, sym (ap (λ (ls : List (List ℕ)). addedAll ls (counts .result, counts .last .0)) (rows-none _ _) ∙ all-none (counts .result, counts .last .0)))
+    (search needs, sym (ap (λ (ls : List (List ℕ)). addedAll ls (counts .result, counts .last .0)) (rows-none _ _ _) ∙ all-none (counts .result, counts .last .0)))
 
 mul-row : tie.Need-mul-row Inv-loop μ-loop
 mul-row c = search needs
@@ -77,9 +79,12 @@ array-share-prefix-bits c = search needs
 slice-aggregate-add-row : tie.Need-slice-aggregate-add-row Inv-loop μ-loop
 slice-aggregate-add-row c = let l = c .before .before .before .before .before .before .before .before .before .before .before in sym (length-take-le _ _ (omega (arith, bits-length (l .before .before .before .before), l .least .ensures)))
 
+kept-row-requires : tie.Need-kept-row-requires Inv-loop μ-loop
+kept-row-requires c κs = search needs
+
 add-row-requires : tie.Need-add-row-requires Inv-loop μ-loop
 add-row-requires c κs =
-    let l = c .before .before .before .before .before .before .before .before .before .before .before in
+    let l = c .before .before .before .before .before .before .before .before .before .before .before .before in
     (within l, omega (arith, length-take (l .least .result) (l .before .before .before .before .args .t5), l .least .ensures))
 
 add-i : tie.Need-add-i Inv-loop μ-loop
@@ -90,12 +95,15 @@ loop-less c = search needs
 
 loop-again : tie.Need-loop-again Inv-loop μ-loop
 loop-again c =
-    let l = c .before .before .before .before .before .before .before .before in
-    let s = l .before .before .before .before .before .before .before .before .before .before in (
-      search needs,
-      all-then _ _ _ _ _ (l .loop .inv .1) (c .before .before .add-row .ensures)
+    let inside = c .before .before .before .before .before .before .before .before in
+    let l = inside .before in
+    let s = l .before .before .before .before .before .before .before .before .before .before in
+    let bits = take (l .before .before .before .before .before .before .least .result) (s .args .t5) in
+    let kept = ap (λ (row : Row). added (rowText (s .args .t3 .head) bits row) (l .loop .to, l .loop .out)) (c .before .before .before .kept-row .ensures) in (
+      omega (arith, inside .loop-test),
+      all-then _ _ _ _ _ (l .loop .inv .1) (c .before .before .add-row .ensures ∙ kept)
           ∙ ap (λ (ls : List (List ℕ)). addedAll ls (l .before .before .before .add-counts .result, l .before .before .before .add-counts .last .0))
-          (sym (rows-more (s .args .t3 .head) _ (s .args .t3 .table) (l .loop .i) _ (omega (arith, table-length s, l .before .before .before .before .before .least2 .ensures)))),
+          (sym (rows-more (s .args .t3 .head) _ (rowsOf (s .args .t3)) (s .args .t3 .table) (l .loop .i) _ (omega (arith, inside .loop-test, table-length s, l .before .before .before .before .before .least2 .ensures)))),
     )
 
 slice-aggregate-add-line : tie.Need-slice-aggregate-add-line Inv-loop μ-loop
@@ -120,7 +128,7 @@ returns-2 c =
     let counts = l .before .before .before .add-counts in
     let bits = take (b .least .result) (s .args .t5) in
     all-behind _ _ _ _ _ (counts .ensures)
-    (all-behind _ (bytes ".e\n" ∷ []) _ _ _ (l .loop .inv .1 ∙ ap (λ (rs : List Row). addedAll (rowTexts (s .args .t3 .head) bits rs) (counts .result, counts .last .0)) rows) (c .before .before .add-line .ensures ∙ sym (all-one (bytes ".e\n") _)))
+    (all-behind _ (bytes ".e\n" ∷ []) _ _ _ (l .loop .inv .1 ∙ ap (λ (rs : List Row). addedAll (rowTexts (s .args .t3 .head) bits (rowsOf (s .args .t3)) rs) (counts .result, counts .last .0)) rows) (c .before .before .add-line .ensures ∙ sym (all-one (bytes ".e\n") _)))
     ∙ ap (λ (ls : List (List ℕ)). addedAll ls (s .args .part, s .args .out .now))
     (cover-parts (s .args .t3) (s .args .t5) (s .args .width) (bits-length s) (table-length s) (b .least .ensures) (k .least2 .ensures)
     ∙ sym (cover-bounded (s .args .t3) (take (s .args .width) (s .args .t5)) (within b)))
@@ -143,6 +151,7 @@ add-cover-spec =
     element-copy-out-row
     array-share-prefix-bits
     slice-aggregate-add-row
+    kept-row-requires
     add-row-requires
     add-i
     loop-less

@@ -17,11 +17,8 @@ put-byte-requires c κs = search needs
 put-next-requires : tie.Need-put-next-requires
 put-next-requires c κs = search needs
 
-cast-put-digits : tie.Need-cast-put-digits
-cast-put-digits c = search needs
-
-put-digits-requires : tie.Need-put-digits-requires
-put-digits-requires c κs = search needs
+put-pattern-requires-2 : tie.Need-put-pattern-requires-2
+put-pattern-requires-2 c κs = search needs
 
 put-byte-requires-2 : tie.Need-put-byte-requires-2
 put-byte-requires-2 c κs = search needs
@@ -31,13 +28,19 @@ same-length c = search needs
 
 returns : tie.Need-returns
 returns c =
+    let outputs = c .before .before .before .before .before .before in
+    let next = outputs .before .before .before .before in
+    let gap = next .before .before .before .before in
+    let face = gap .before .before .before .before in
+    let input = face .before .before .before .before in
+    let s = input .before .before .before .before .before .before .args in
     wrote-as
-    (wrote-then (c .before .before .before .before .before .before .before .before .before .before .before .before .before .before .before .before .before .before .before .before .before .before .before .put-pattern .ensures)
-    (wrote-then (c .before .before .before .before .before .before .before .before .before .before .before .before .before .before .before .before .before .before .before .put-face .ensures)
-    (wrote-then (c .before .before .before .before .before .before .before .before .before .before .before .before .before .before .before .put-byte .ensures)
-    (wrote-then (c .before .before .before .before .before .before .before .before .before .before .before .put-next .ensures)
-    (wrote-then (c .before .before .before .before .before .before .put-digits .ensures) (c .before .before .put-byte2 .ensures))))))
-    (row-parts (c .before .before .before .before .before .before .before .before .before .before .before .before .before .before .before .before .before .before .before .before .before .before .before .before .before .before .before .before .before .args .head) (c .before .before .before .before .before .before .before .before .before .before .before .before .before .before .before .before .before .before .before .before .before .before .before .before .before .before .before .before .before .args .bits .now) (c .before .before .before .before .before .before .before .before .before .before .before .before .before .before .before .before .before .before .before .before .before .before .before .before .before .before .before .before .before .args .row))
+    (wrote-then (input .put-pattern .ensures)
+    (wrote-then (face .put-face .ensures)
+    (wrote-then (gap .put-byte .ensures)
+    (wrote-then (next .put-next .ensures)
+    (wrote-then (outputs .put-pattern2 .ensures) (c .before .before .put-byte2 .ensures))))))
+    (row-parts (s .head) (s .bits .now) (s .row))
 
 pub put-row-spec : {M : Type 1} → statement M
 put-row-spec =
@@ -47,8 +50,7 @@ put-row-spec =
     put-face-requires
     put-byte-requires
     put-next-requires
-    cast-put-digits
-    put-digits-requires
+    put-pattern-requires-2
     put-byte-requires-2
     same-length
     returns)

@@ -1,8 +1,8 @@
--- `read_conflict::share_input` meets its contract.
+-- `sharing::share_input` meets its contract.
 use native.Mathlib.Omega.{arith}
-use Rattle.read_conflict.proofs.Inputs.{share-mask}
-use Rattle.read_conflict.proofs.share_input.Statement.{statement}
-use Rattle.read_conflict.proofs.share_input.Tie as tie
+use Rattle.sharing.proofs.Inputs.{share-mask}
+use Rattle.sharing.proofs.share_input.Statement.{statement}
+use Rattle.sharing.proofs.share_input.Tie as tie
 
 returns : tie.Need-returns
 returns c =
