@@ -122,24 +122,41 @@ static bool find_line(struct chance *chance, const struct generated *listing, co
     return found > 0;
 }
 
-/* A row's line with all its five fields; one that fits the machine is put in before the last line if there is none. */
+/* Before the last line. */
+static size_t near_end(const struct generated *listing)
+{
+    unsigned lines = line_number(listing);
+    return line_of(listing, lines == 0 ? 0 : lines - 1).at;
+}
+
+/* A row that fits the machine, in state 0 where all inputs are 0; it goes to this state, or to none if there is no such one. */
+static size_t make_row(const struct generated *listing, unsigned next, char row[256])
+{
+    unsigned fields[] = {listing->inputs, listing->states, listing->states, listing->outputs};
+    unsigned number = listing->moore ? 3 : 4;
+    size_t length = 3;
+    memcpy(row, "PT ", 3);
+    for (unsigned field = 0; field < number; field++) {
+        memset(row + length, '0', fields[field]);
+        length += fields[field];
+        row[length] = field + 1 < number ? ' ' : '\n';
+        length++;
+    }
+    row[3 + listing->inputs + 1] = '1';
+    if (next < listing->states)
+        row[3 + listing->inputs + 1 + listing->states + 1 + next] = '1';
+    return length;
+}
+
+/* A row's line with all its fields; one is put in before the last line if there is none. */
 static struct span a_row(struct chance *chance, struct generated *listing)
 {
     struct span line;
-    if (find_line(chance, listing, "PT", 5, &line))
+    char row[256];
+    if (find_line(chance, listing, "PT", listing->moore ? 4 : 5, &line))
         return line;
-    char row[256] = "PT ";
-    size_t length = 3;
-    unsigned fields[] = {listing->inputs, listing->states, listing->states, listing->outputs};
-    for (unsigned field = 0; field < LENGTH_OF(fields); field++) {
-        memset(row + length, '0', fields[field]);
-        length += fields[field];
-        row[length] = field + 1 < LENGTH_OF(fields) ? ' ' : '\n';
-        length++;
-    }
-    row[3 + listing->inputs + 1] = '1'; /* the group is state 0 */
-    unsigned lines = line_number(listing);
-    line.at = line_of(listing, lines == 0 ? 0 : lines - 1).at;
+    size_t length = make_row(listing, listing->states, row);
+    line.at = near_end(listing);
     line.length = length - 1;
     insert(listing, line.at, row, length);
     return line;
@@ -147,7 +164,7 @@ static struct span a_row(struct chance *chance, struct generated *listing)
 
 static uint8_t any_byte(struct chance *chance)
 {
-    static const char likely[] = "01-+.01-+. \nMCPTDIEN2389";
+    static const char likely[] = "01-+.01-+. \nMCPTDIENOU2389";
     if (chance_part(chance, 3, 4))
         return (uint8_t)likely[chance_below(chance, sizeof likely - 1)];
     return (uint8_t)chance_next(chance);
@@ -250,12 +267,17 @@ static void nothing_at_all(struct chance *chance, struct generated *listing)
 
 /* ---- lines ---- */
 
-static void drop_line(struct chance *chance, struct generated *listing)
+/* Takes a line out, its LF too. */
+static void cut_line(struct generated *listing, struct span line)
 {
-    struct span line = any_line(chance, listing);
     if (line.at + line.length < listing->length)
         line.length++;
     replace(listing, line, "", 0);
+}
+
+static void drop_line(struct chance *chance, struct generated *listing)
+{
+    cut_line(listing, any_line(chance, listing));
 }
 
 static void double_line(struct chance *chance, struct generated *listing)
@@ -308,7 +330,7 @@ static void no_end(struct chance *chance, struct generated *listing)
 static void after_end(struct chance *chance, struct generated *listing)
 {
     static const char *const more[] = {
-        "\n", "\n\n", "E", "EN", "EN\n", "MC 1 1 1 0\n", "MC", "PT 0 1 0 1\n", " ", "\r", "x",
+        "\n", "\n\n", "E", "EN", "EN\n", "MC 1 1 1 0\n", "MC", "PT 0 1 0 1\n", "OU 0 0\n", "OU", " ", "\r", "x",
     };
     if (chance_part(chance, 1, 6))
         insert(listing, listing->length, "\0", 1);
@@ -319,7 +341,8 @@ static void after_end(struct chance *chance, struct generated *listing)
 static void second_head(struct chance *chance, struct generated *listing)
 {
     static const char *const head[] = {
-        "MC 1 1 1 0\n", "MC 3 1 1 0\n", "MC\n", "MC \n", "MC 65 1 1 0\n", "MC 1 1\n", "MC x",
+        "MC 1 1 1 0\n", "MC 3 1 1 0 1\n", "MC\n", "MC \n", "MC 65 1 1 0\n", "MC 1 1\n", "MC x",
+        "MO 1 1 1 0\n", "MO 3 1 1 0 1\n", "MO\n", "MO \n", "MO 65 1 1 0\n", "MO 1 1\n", "MO x",
     };
     const char *word = any_word(chance, head, LENGTH_OF(head));
     size_t at = any_line(chance, listing).at;
@@ -345,6 +368,7 @@ static void wrong_mark(struct chance *chance, struct generated *listing)
     static const char *const mark[] = {
         "MCX", "Mc", "mc", "M", "MC\t", "PTX", "pt", "P",  "PT\r", "DIX", "di", "D", "DI+", "ENX", "en",  "E",
         "EN1", "",   "SC", "UN", "CT",  ".i",  ".e", "FT", "MO",   "#",   "MC", "PT", "DI", "EN",  "\xC3\x84",
+        "MOX", "mo", "O",  "OU", "OUX", "ou",  "OU0",
     };
     struct span line = any_line(chance, listing);
     replace_word(listing, field_of(listing, line, 0), any_word(chance, mark, LENGTH_OF(mark)));
@@ -364,6 +388,38 @@ static void out_of_range(struct chance *chance, struct generated *listing)
     unsigned fields = field_number(listing, line);
     unsigned field = fields < 2 ? 0 : chance_from(chance, 1, fields - 1);
     replace_word(listing, field_of(listing, line, field), far_number(chance));
+}
+
+/* Puts these words, led by a space, behind the first four numbers of the head line, whatever stood there. */
+static void put_behind_width(struct generated *listing, const char *words)
+{
+    struct span line = line_of(listing, 0);
+    struct span behind = {line.at + line.length, 0};
+    if (field_number(listing, line) > 5) {
+        behind.at = field_of(listing, line, 5).at - 1;
+        behind.length = line.at + line.length - behind.at;
+    }
+    replace_word(listing, behind, words);
+}
+
+/* A fifth number that is above 1, or no number; now and then another number of the line is out of its range too. */
+static void wrong_fifth(struct chance *chance, struct generated *listing)
+{
+    static const char *const fifth[] = {
+        " 2",  " 2",    " 2",     " 2", " 3",  " 10", " 11", " 64", " 256", " 257", " 9999", " 01", " 01", " 00",  " 00",
+        " 02", " 0001", " 10000", " x", " 1x", " -",  " -1", " +1", " 1\t", " .",   " ",     " ",   " ",   " 0x1", " 65537",
+    };
+    if (chance_part(chance, 1, 6))
+        out_of_range(chance, listing);
+    put_behind_width(listing, any_word(chance, fifth, LENGTH_OF(fifth)));
+}
+
+static void sixth_number(struct chance *chance, struct generated *listing)
+{
+    static const char *const both[] = {
+        " 0 0", " 0 1", " 1 0", " 1 1", " 0 ", " 1 ", " 2 0", " 2 1", "  1", "  ", " 1 x", " 0 0 0",
+    };
+    put_behind_width(listing, any_word(chance, both, LENGTH_OF(both)));
 }
 
 static void tab_for_space(struct chance *chance, struct generated *listing)
@@ -500,12 +556,12 @@ static void spoil_row(struct chance *chance, struct generated *listing, struct s
     if (two)
         fill_field(listing, field_of(listing, line, 3), '1');
     if (character) {
-        struct span field = field_of(listing, line, chance_from(chance, 1, 4));
+        struct span field = field_of(listing, line, chance_from(chance, 1, field_number(listing, line) - 1));
         if (field.length > 0)
             listing->bytes[field.at] = 'x';
     }
     if (head)
-        replace_word(listing, field_of(listing, line, 0), "MC");
+        replace_word(listing, field_of(listing, line, 0), chance_part(chance, 1, 2) ? "MC" : "MO");
     if (field_more)
         insert(listing, line.at + line.length, " 1", 2);
     line.length += listing->length - before;
@@ -569,6 +625,202 @@ static void spoilt_65th(struct chance *chance, struct generated *listing)
         listing->length = line.at + line.length;
 }
 
+/* ---- Moore machines ---- */
+
+/* A listing of a Moore machine, or of none: this one if it is, else another small one. */
+static void make_profile(struct chance *chance, bool moore, struct generated *listing)
+{
+    if (listing->moore != moore)
+        generate_profile(chance, chance_part(chance, 1, 2) ? GENERATE_TINY : GENERATE_SMALL, moore, listing);
+}
+
+/* A Moore machine's `OU` line with all its fields; false if there is none, which other damage may have brought about. */
+static bool an_outputs_line(struct chance *chance, struct generated *listing, struct span *line)
+{
+    make_profile(chance, true, listing);
+    return find_line(chance, listing, "OU", 3, line) && line->length < 200;
+}
+
+/* A state without its line; now and then several states. */
+static void no_outputs(struct chance *chance, struct generated *listing)
+{
+    struct span line;
+    unsigned times = chance_part(chance, 3, 4) ? 1 : chance_from(chance, 2, 8);
+    for (; times > 0 && an_outputs_line(chance, listing, &line); times--)
+        cut_line(listing, line);
+}
+
+/* And two rows that clash. */
+static void no_outputs_clash(struct chance *chance, struct generated *listing)
+{
+    char row[256];
+    if (!listing->moore || listing->states < 2)
+        generate_profile(chance, GENERATE_SMALL, true, listing);
+    for (unsigned next = 0; next < 2; next++)
+        insert(listing, near_end(listing), row, make_row(listing, next, row));
+    no_outputs(chance, listing);
+}
+
+/* And bytes after `EN`. */
+static void no_outputs_after_end(struct chance *chance, struct generated *listing)
+{
+    no_outputs(chance, listing);
+    after_end(chance, listing);
+}
+
+/* Spoils what stands behind the number of an `OU` line, and answers the line as it then is. */
+static struct span spoil_outputs(struct chance *chance, struct generated *listing, struct span line)
+{
+    static const char *const more[] = {" 0", " ", " 1", " x", " 0 0 0 0 0"};
+    struct span field = field_of(listing, line, 2);
+    struct span first = {field.at, 1};
+    struct span with_space = {field.at - 1, field.length + 1};
+    size_t before = listing->length;
+    switch (chance_below(chance, 5)) {
+    case 0:
+        replace_word(listing, first, "");
+        break;
+    case 1:
+        insert(listing, field.at, "1", 1);
+        break;
+    case 2:
+        listing->bytes[field.at + chance_below(chance, (unsigned)field.length)] = (uint8_t)"x2+.\t\r"[chance_below(chance, 6)];
+        break;
+    case 3:
+        replace_word(listing, with_space, "");
+        break;
+    case 4:
+        insert_word(listing, line.at + line.length, any_word(chance, more, LENGTH_OF(more)));
+        break;
+    }
+    line.length += listing->length - before;
+    return line;
+}
+
+static void wrong_outputs(struct chance *chance, struct generated *listing)
+{
+    struct span line;
+    if (an_outputs_line(chance, listing, &line) && field_of(listing, line, 2).length > 0)
+        spoil_outputs(chance, listing, line);
+}
+
+/* A line behind this one has the same state: it is the same line, or its rest is spoilt, or it is the last and has no LF. */
+static void second_outputs(struct chance *chance, struct generated *listing)
+{
+    struct span line;
+    uint8_t copy[256];
+    bool spoilt = chance_part(chance, 1, 2);
+    bool last = chance_part(chance, 1, 4);
+    if (!an_outputs_line(chance, listing, &line) || field_of(listing, line, 2).length == 0)
+        return;
+    size_t length = line.length;
+    memcpy(copy, listing->bytes + line.at, length);
+    copy[length] = '\n';
+    struct span behind = line_after(listing, line);
+    struct span other = any_line(chance, listing);
+    line.at = other.at > behind.at ? other.at : behind.at;
+    if (line.at > listing->length)
+        return;
+    insert(listing, line.at, copy, length + 1);
+    if (spoilt)
+        line = spoil_outputs(chance, listing, line);
+    if (last)
+        listing->length = line.at + line.length;
+}
+
+/* The last line is a state's `OU` line, which has no LF. */
+static void unended_outputs(struct chance *chance, struct generated *listing)
+{
+    struct span line;
+    if (an_outputs_line(chance, listing, &line))
+        listing->length = line.at + line.length;
+}
+
+/* An `OU` line among the rows of a machine that is no Moore machine, good for one that is, or not. */
+static void outputs_under_mc(struct chance *chance, struct generated *listing)
+{
+    static const char *const spoilt[] = {"OU", "OU ", "OU x", "OU 0", "OU 0 ", "OU 0 0 0", "OU 00 0", "OU 64 1", "OU 0 x"};
+    char good[64] = "OU 0 ";
+    make_profile(chance, false, listing);
+    memset(good + 5, "01-"[chance_below(chance, 3)], listing->outputs);
+    const char *word = chance_part(chance, 1, 2) ? good : any_word(chance, spoilt, LENGTH_OF(spoilt));
+    unsigned lines = line_number(listing);
+    if (lines < 2)
+        return;
+    size_t at = line_of(listing, chance_from(chance, 1, lines - 1)).at;
+    bool last = chance_part(chance, 1, 4);
+    insert(listing, at, "\n", 1);
+    insert_word(listing, at, word);
+    if (last)
+        listing->length = at + strlen(word);
+}
+
+/* An `OU` line before the head line, or for it. */
+static void outputs_first(struct chance *chance, struct generated *listing)
+{
+    static const char *const first[] = {"OU 0 0\n", "OU\n", "OU x\n", "OU 0 1 1\n"};
+    if (chance_part(chance, 1, 2))
+        insert_word(listing, 0, any_word(chance, first, LENGTH_OF(first)));
+    else
+        replace_word(listing, field_of(listing, line_of(listing, 0), 0), "OU");
+}
+
+static void put_number(unsigned number, char **word)
+{
+    if (number >= 10)
+        put_number(number / 10, word);
+    *(*word)++ = (char)('0' + number % 10);
+}
+
+/* The first state that is not there, one far off, or one that a small number could be taken for; now and then the outputs are
+   wrong too, which comes first. */
+static void no_such_state(struct chance *chance, struct generated *listing)
+{
+    static const unsigned far[] = {1, 2, 64, 65, 128, 256, 257, 1000, 9999};
+    struct span line;
+    char word[8] = "";
+    char *end = word;
+    if (!an_outputs_line(chance, listing, &line))
+        return;
+    unsigned state = listing->states;
+    if (chance_part(chance, 1, 2))
+        state += far[chance_below(chance, LENGTH_OF(far))];
+    put_number(state < 9999 ? state : 9999, &end);
+    if (chance_part(chance, 1, 4) && field_of(listing, line, 2).length > 0)
+        line = spoil_outputs(chance, listing, line);
+    replace_word(listing, field_of(listing, line, 1), word);
+}
+
+static void wrong_state_number(struct chance *chance, struct generated *listing)
+{
+    static const char *const number[] = {
+        "", "00", "01", "000", "007", "x", "-1", "+0", "+1", "-", "1x", "1.", "0x0", "0\t", "10000", "00000", "65536",
+    };
+    struct span line;
+    if (an_outputs_line(chance, listing, &line))
+        replace_word(listing, field_of(listing, line, 1), any_word(chance, number, LENGTH_OF(number)));
+}
+
+/* A row that would fit the other kind of machine, with outputs or without; or a head line of the other kind. */
+static void other_profile(struct chance *chance, struct generated *listing)
+{
+    char outputs[64] = " ";
+    if (chance_part(chance, 1, 4)) {
+        replace_word(listing, field_of(listing, line_of(listing, 0), 0), listing->moore ? "MC" : "MO");
+        return;
+    }
+    struct span line = a_row(chance, listing);
+    memset(outputs + 1, "01-"[chance_below(chance, 3)], listing->outputs);
+    if (listing->moore) {
+        insert_word(listing, line.at + line.length, outputs);
+        return;
+    }
+    struct span field = field_of(listing, line, 4);
+    field.at--;
+    field.length++;
+    replace(listing, field, "", 0);
+}
+
 /* ---- the longest listings ---- */
 
 /* 65,536 bytes or a few more or fewer: filled up behind the end, within a line, or with many lines. */
@@ -612,11 +864,13 @@ static const struct {
     {"an empty line", 2, empty_line},
     {"no EN", 3, no_end},
     {"bytes after EN", 4, after_end},
-    {"a second MC", 4, second_head},
+    {"a second head", 9, second_head},
     {"two listings", 2, join_two},
     {"wrong mark", 5, wrong_mark},
     {"wrong number", 6, wrong_number},
     {"out of range", 6, out_of_range},
+    {"a wrong fifth number", 13, wrong_fifth},
+    {"a sixth number", 4, sixth_number},
     {"a tab", 2, tab_for_space},
     {"a double space", 2, double_space},
     {"a leading space", 2, leading_space},
@@ -634,6 +888,17 @@ static const struct {
     {"a spoilt head", 4, spoilt_head},
     {"a spoilt 129th row", 3, spoilt_129th},
     {"a spoilt 65th DI", 3, spoilt_65th},
+    {"no OU", 8, no_outputs},
+    {"no OU, and a clash", 4, no_outputs_clash},
+    {"no OU, more after EN", 4, no_outputs_after_end},
+    {"a second OU", 9, second_outputs},
+    {"an unended OU", 4, unended_outputs},
+    {"OU under MC", 6, outputs_under_mc},
+    {"OU first", 3, outputs_first},
+    {"OU of no state", 6, no_such_state},
+    {"a wrong OU number", 4, wrong_state_number},
+    {"wrong OU outputs", 9, wrong_outputs},
+    {"the other profile", 7, other_profile},
     {"very long", 1, very_long},
 };
 

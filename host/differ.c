@@ -5,12 +5,14 @@
 #include "known.h"
 #include "tsurmokan.h"
 #include "second.h"
+#include "seen.h"
 
 /* In a run of at least so many listings, each refusal number must be seen at least so often. */
 #ifndef FULL_RUN
 #define FULL_RUN 20000
 #endif
 #define SEEN_LEAST 20
+#define UNTOLD_LEAST 100 /* 17 */
 
 /* Bytes of chance before and behind a lent buffer, which nobody may change. */
 #define GUARD 64
@@ -19,12 +21,15 @@
 
 /* ---- what was seen ---- */
 
-#define NUMBERS 12
+/* The refusal numbers that are counted apart, 0 being an answer, and a place for any other. */
+static const unsigned numbers[] = {0, 1, 2, 3, 4, 5, 6, 7, 8, 9, 10, 11, 17};
+#define NUMBERS (LENGTH_OF(numbers) + 1)
+#define OTHER LENGTH_OF(numbers)
 #define CLASSES 8
 
 struct tally {
     const char *name;
-    uint64_t seen[NUMBERS]; /* by refusal number; 0 is an answer */
+    uint64_t seen[NUMBERS]; /* by the place of the refusal number */
     uint64_t second_time;
     uint64_t library_time;
 };
@@ -36,13 +41,6 @@ static struct tally report_part_tally = {.name = "report part"};
 static struct tally cover_part_tally = {.name = "cover part"};
 static uint64_t parts_at_end; /* calls of parts with nothing left */
 static uint64_t texts_gathered, steps_gathered;
-
-/* Covers with an output dash of each sort: kept; written 0 for a row before it and none behind it that says 1, and the other way
-   round; kept beside a row that says 1 and shares only the inputs, or only a state. */
-enum dash { DASH_KEPT, DASH_FOR_EARLIER, DASH_FOR_LATER, DASH_INPUTS_ALONE, DASH_STATES_ALONE, DASHES };
-static const char *const dash_name[DASHES] = {"kept", "0 for earlier rows alone", "0 for later rows alone",
-                                              "kept, inputs shared alone", "kept, states shared alone"};
-static uint64_t dash_covers[DASHES];
 
 static const struct entries second_entries = {"the second encoder", second_report,      second_cover,
                                               second_widths,        second_report_part, second_cover_part};
@@ -73,10 +71,14 @@ static unsigned class_of(unsigned states)
     return class;
 }
 
-static unsigned number_of(int64_t answer)
+/* The place of an answer's refusal number. */
+static unsigned place_of(int64_t answer)
 {
     int64_t number = answer >= 0 ? 0 : -answer / 100000;
-    return number < NUMBERS ? (unsigned)number : NUMBERS - 1;
+    unsigned place = 0;
+    while (place < OTHER && numbers[place] != number)
+        place++;
+    return place;
 }
 
 /* This process's own time (CLOCK_PROCESS_CPUTIME_ID), so that a busy machine changes nothing. */
@@ -227,8 +229,8 @@ static bool compare_entry(struct chance *chance, struct tally *tally, entry *lib
     int64_t their_answer = library(listing.bytes, listing.length, theirs + GUARD, length);
     tally->library_time += now() - start;
 
-    tally->seen[number_of(our_answer)]++;
-    kind_seen[listing.kind][number_of(our_answer)]++;
+    tally->seen[place_of(our_answer)]++;
+    kind_seen[listing.kind][place_of(our_answer)]++;
     *answered = answer;
     return same_call(tally, 0, length, our_answer, their_answer);
 }
@@ -308,7 +310,7 @@ static bool compare_part(struct chance *chance, struct tally *tally, part_entry 
     uint64_t start = now();
     int64_t their_answer = library(listing.bytes, listing.length, from, theirs + GUARD, length);
     tally->library_time += now() - start;
-    tally->seen[number_of(our_answer)]++;
+    tally->seen[place_of(our_answer)]++;
     parts_at_end += our_answer == 0;
     return same_call(tally, from, length, our_answer, their_answer);
 }
@@ -372,67 +374,6 @@ static bool compare_parts(struct chance *chance, struct tally *tally, part_entry
     return answer < 0 || !chance_part(chance, 1, 8) || gather(chance, tally, library, answer);
 }
 
-/* ---- dashes in the outputs ---- */
-
-/* Notes of which sorts a dash is. */
-static void sort_dash(const struct second_machine *machine, unsigned row, unsigned place, bool sort[DASHES])
-{
-    bool earlier = false;
-    bool later = false;
-    bool inputs_alone = false;
-    bool states_alone = false;
-    for (unsigned other = 0; other < machine->rows; other++) {
-        if (machine->row[other].outputs[place] != '1')
-            continue;
-        bool inputs = second_share_input(&machine->row[row], &machine->row[other], machine->inputs);
-        bool states = second_share_state(&machine->row[row], &machine->row[other]);
-        earlier = earlier || (inputs && states && other < row);
-        later = later || (inputs && states && other > row);
-        inputs_alone = inputs_alone || (inputs && !states);
-        states_alone = states_alone || (states && !inputs);
-    }
-    bool kept = !earlier && !later;
-    sort[DASH_KEPT] |= kept;
-    sort[DASH_FOR_EARLIER] |= earlier && !later;
-    sort[DASH_FOR_LATER] |= later && !earlier;
-    sort[DASH_INPUTS_ALONE] |= kept && inputs_alone;
-    sort[DASH_STATES_ALONE] |= kept && states_alone;
-}
-
-/* The listing has a cover. */
-static void count_dashes(void)
-{
-    static struct second_machine machine;
-    bool sort[DASHES] = {false};
-    second_read_lines(listing.bytes, listing.length, &machine);
-    for (unsigned row = 0; row < machine.rows; row++)
-        for (unsigned place = 0; place < machine.outputs; place++)
-            if (machine.row[row].outputs[place] == '-')
-                sort_dash(&machine, row, place, sort);
-    for (unsigned dash = 0; dash < DASHES; dash++)
-        dash_covers[dash] += sort[dash];
-}
-
-static void print_dashes(void)
-{
-    printf("covers with an output dash:");
-    for (unsigned dash = 0; dash < DASHES; dash++)
-        printf(" %s: %llu;", dash_name[dash], (unsigned long long)dash_covers[dash]);
-    printf("\n");
-}
-
-static bool dashes_enough(void)
-{
-    bool enough = true;
-    for (unsigned dash = 0; dash < DASHES; dash++) {
-        if (dash_covers[dash] < SEEN_LEAST) {
-            printf("FAILED: only %llu covers with a dash %s\n", (unsigned long long)dash_covers[dash], dash_name[dash]);
-            enough = false;
-        }
-    }
-    return enough;
-}
-
 /* ---- one listing, all entries ---- */
 
 /* The second encoder encodes once for each width, which is dear above 32 states: of those one in 16 is compared, and of the long
@@ -460,8 +401,10 @@ static bool compare_listing(uint64_t seed, uint64_t number)
         printf("seed %llu, listing %llu\n", (unsigned long long)seed, (unsigned long long)number);
         return false;
     }
+    seen_head(listing.bytes, listing.length, report);
     if (cover >= 0)
-        count_dashes();
+        seen_cover(listing.bytes, listing.length);
+    seen_moore(listing.bytes, listing.length, cover >= 0);
     unsigned class = class_of(listing.states);
     by_class[class].listings++;
     by_class[class].reports += report >= 0;
@@ -633,41 +576,48 @@ static bool compare_trial(uint64_t seed, uint64_t number)
 static void print_tally(const struct tally *tally)
 {
     printf("%-11s: %llu answered; refused", tally->name, (unsigned long long)tally->seen[0]);
-    for (unsigned number = 1; number < NUMBERS; number++)
-        printf(" %u:%llu", number, (unsigned long long)tally->seen[number]);
+    for (unsigned place = 1; place < OTHER; place++)
+        printf(" %u:%llu", numbers[place], (unsigned long long)tally->seen[place]);
     printf("; time: second encoder %llu ms, library %llu ms\n", (unsigned long long)(tally->second_time / 1000000),
            (unsigned long long)(tally->library_time / 1000000));
 }
 
 static void print_kinds(void)
 {
-    printf("%-20s %8s %8s %8s  answers of all entries by number, 0 to 10\n", "kind", "listings", "reports", "covers");
+    printf("%-20s %8s %8s %8s  answers of all entries by number, 0 to 11 and 17\n", "kind", "listings", "reports", "covers");
     for (unsigned kind = 0; kind < GENERATE_KINDS; kind++) {
         printf("%-20s %8llu %8llu %8llu ", generate_kind_name(kind), (unsigned long long)by_kind[kind].listings,
                (unsigned long long)by_kind[kind].reports, (unsigned long long)by_kind[kind].covers);
-        for (unsigned number = 0; number < NUMBERS - 1; number++)
-            printf(" %llu", (unsigned long long)kind_seen[kind][number]);
+        for (unsigned place = 0; place < OTHER; place++)
+            printf(" %llu", (unsigned long long)kind_seen[kind][place]);
         printf("\n");
     }
 }
 
-/* Every number that an entry can be refused by, from 1 to 10, seen often enough, and no other seen at all; 8 is unused. */
-static bool seen_enough(const struct tally *tally, const char *never)
+/* Whether an entry can be refused by this number: not by 8, which is unused, not by 11, which is the trial records', and not by
+   those named here. */
+static bool is_given(unsigned number, const char *never)
 {
-    bool enough = true;
-    for (unsigned number = 1; number <= 10; number++) {
-        bool given = true;
-        for (const char *digit = never; *digit != 0; digit++)
-            given = given && number != (unsigned)(*digit - '0');
-        if (!given && tally->seen[number] > 0) {
-            printf("FAILED: %s was refused %u\n", tally->name, number);
-            enough = false;
-        }
-        if (given && tally->seen[number] < SEEN_LEAST) {
-            printf("FAILED: %s was refused %u only %llu times\n", tally->name, number,
-                   (unsigned long long)tally->seen[number]);
-            enough = false;
-        }
+    if (number == 8 || number == 11)
+        return false;
+    for (const char *digit = never; *digit != 0; digit++)
+        if (number == (unsigned)(*digit - '0'))
+            return false;
+    return true;
+}
+
+/* Every number that an entry can be refused by seen often enough, and no other seen at all. */
+static bool numbers_enough(const struct tally *tally, const char *never)
+{
+    bool enough = tally->seen[OTHER] == 0;
+    for (unsigned place = 1; place < OTHER; place++) {
+        unsigned number = numbers[place];
+        uint64_t seen = tally->seen[place];
+        bool given = is_given(number, never);
+        if (given ? seen >= (number == SECOND_UNTOLD ? UNTOLD_LEAST : SEEN_LEAST) : seen == 0)
+            continue;
+        printf("FAILED: %s was refused %u %llu times\n", tally->name, number, (unsigned long long)seen);
+        enough = false;
     }
     return enough;
 }
@@ -741,20 +691,22 @@ int main(int words, char **word)
     print_tally(&cover_part_tally);
     printf("parts: %llu calls with nothing left; %llu texts gathered in %llu steps\n", (unsigned long long)parts_at_end,
            (unsigned long long)texts_gathered, (unsigned long long)steps_gathered);
-    print_dashes();
+    seen_print();
+    seen_moore_print();
     printf("%llu listings of seed %llu, half of them damaged, all alike; "
            "%llu have a report and %llu a cover, given room; %llu ms\n",
            (unsigned long long)count, (unsigned long long)seed, (unsigned long long)reports,
            (unsigned long long)covers, (unsigned long long)(took / 1000000));
     if (count >= FULL_RUN) {
-        bool enough = seen_enough(&report_tally, "89");
-        enough = seen_enough(&cover_tally, "8") && enough;
-        enough = seen_enough(&widths_tally, "789") && enough;
-        enough = seen_enough(&report_part_tally, "89") && enough;
-        enough = seen_enough(&cover_part_tally, "8") && enough;
+        bool enough = numbers_enough(&report_tally, "9");
+        enough = numbers_enough(&cover_tally, "") && enough;
+        enough = numbers_enough(&widths_tally, "79") && enough;
+        enough = numbers_enough(&report_part_tally, "9") && enough;
+        enough = numbers_enough(&cover_part_tally, "") && enough;
         enough = parts_at_end >= SEEN_LEAST && texts_gathered >= SEEN_LEAST && enough;
         enough = trial_refused_starts >= SEEN_LEAST && trial_refused_moves >= SEEN_LEAST && enough;
-        enough = dashes_enough() && enough;
+        enough = seen_each() && enough;
+        enough = seen_moore_each() && enough;
         if (!enough)
             return 1;
     }

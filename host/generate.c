@@ -45,15 +45,20 @@ enum groups { ANY_GROUPS, PAIR_GROUPS, PLAIN_GROUPS };
 /* One more row and one more dichotomy than a listing may have. */
 struct draft {
     enum groups groups;
+    bool moore;
     unsigned states;
     unsigned inputs;
     unsigned outputs;
     unsigned width;
+    const char *fifth;      /* the head line's fifth number and the space before it, or nothing */
     unsigned output_dashes; /* of 4 output characters, so many are dashes */
+    unsigned quiet_rows;    /* of 4 rows, so many say nothing or next to nothing */
     unsigned rows;
     struct row row[ROWS + 1];
     unsigned dichotomies;
     char dichotomy[DICHOTOMIES + 1][STATES];
+    unsigned told[STATES]; /* of a Moore machine, the states in the order of their lines, and their outputs */
+    char state_outputs[STATES][OUTPUTS];
 };
 
 static enum generate_family draw_family(struct chance *chance)
@@ -112,6 +117,8 @@ static void draw_sizes(struct chance *chance, enum generate_family family, struc
         draft->states = chance_from(chance, 1, 3);
         draft->rows = chance_below(chance, 6);
         draft->dichotomies = chance_below(chance, 4);
+        if (draft->states == 1 && chance_part(chance, 2, 3))
+            draft->dichotomies = 0; /* no bits */
         break;
     case GENERATE_SMALL:
         draft->states = chance_from(chance, 2, 8);
@@ -305,6 +312,43 @@ static void draw_beside(struct chance *chance, const struct draft *draft, const 
     }
 }
 
+/* A dash that has to be written 0: the row shares an input vector and a state with another one, which says 1 there. */
+static void dash_beside_one(struct row *from, struct row *row, unsigned place)
+{
+    memcpy(row->input, from->input, sizeof row->input);
+    row->group = from->group;
+    row->outputs[place] = '-';
+    from->outputs[place] = '1';
+}
+
+/* A row that a cover leaves out, or would but for one thing: a dash, a dash that is written 0, an output 1, a next state other
+   than state 0, whose code is all zeros. */
+static void draw_quiet(struct chance *chance, struct draft *draft, unsigned at)
+{
+    struct row *row = &draft->row[at];
+    unsigned place = chance_below(chance, draft->outputs);
+    memset(row->outputs, '0', sizeof row->outputs);
+    row->next = chance_part(chance, 1, 2) ? NO_STATE : 0;
+    switch (chance_below(chance, 9)) {
+    case 0:
+        row->outputs[place] = '-';
+        break;
+    case 1:
+        if (at > 0)
+            dash_beside_one(&draft->row[chance_below(chance, at)], row, place);
+        break;
+    case 2:
+        row->outputs[place] = '1';
+        break;
+    case 3:
+        if (draft->states > 1)
+            row->next = (int)chance_from(chance, 1, draft->states - 1);
+        break;
+    default:
+        break;
+    }
+}
+
 static void draw_row(struct chance *chance, enum generate_family family, struct draft *draft, unsigned at)
 {
     static const char three[] = "01-";
@@ -318,6 +362,8 @@ static void draw_row(struct chance *chance, enum generate_family family, struct 
         row->outputs[place] = chance_part(chance, draft->output_dashes, 4) ? '-' : three[chance_below(chance, 2)];
     if (draft->groups == ANY_GROUPS && at > 0 && chance_part(chance, 1, 5))
         draw_beside(chance, draft, &draft->row[chance_below(chance, at)], row);
+    if (draft->groups == ANY_GROUPS && chance_part(chance, draft->quiet_rows, 4))
+        draw_quiet(chance, draft, at);
     if (family == GENERATE_CLASH && at > 0 && chance_part(chance, 1, 4)) {
         /* Nearly an earlier row, with another next state or none. */
         struct row *earlier = &draft->row[chance_below(chance, at)];
@@ -370,6 +416,35 @@ static void draw_crowd(struct chance *chance, struct draft *draft)
     }
 }
 
+/* The outputs of a Moore machine's state: all 0 where rows are quiet, now and then but for a dash or a 1; else any. */
+static void draw_state_outputs(struct chance *chance, struct draft *draft, unsigned state)
+{
+    char *outputs = draft->state_outputs[state];
+    bool quiet = chance_part(chance, draft->quiet_rows, 4);
+    for (unsigned place = 0; place < draft->outputs; place++)
+        outputs[place] = chance_part(chance, draft->output_dashes, 4) ? '-' : "01"[chance_below(chance, 2)];
+    if (!quiet)
+        return;
+    memset(outputs, '0', OUTPUTS);
+    if (chance_part(chance, 1, 3))
+        outputs[chance_below(chance, draft->outputs)] = "-1"[chance_below(chance, 2)];
+}
+
+/* In which order the states' lines stand: ascending, descending, or any. */
+static void draw_order(struct chance *chance, struct draft *draft)
+{
+    bool descending = chance_part(chance, 1, 5);
+    bool any = !chance_part(chance, 1, 4);
+    for (unsigned at = 0; at < draft->states; at++)
+        draft->told[at] = descending ? draft->states - 1 - at : at;
+    for (unsigned at = draft->states; any && at > 1; at--) {
+        unsigned other = chance_below(chance, at);
+        unsigned state = draft->told[at - 1];
+        draft->told[at - 1] = draft->told[other];
+        draft->told[other] = state;
+    }
+}
+
 static void put(struct generated *listing, char byte)
 {
     listing->bytes[listing->length] = (uint8_t)byte;
@@ -403,18 +478,32 @@ static void write_row(const struct draft *draft, const struct row *row, struct g
     put_set(listing, row->group, draft->states);
     put(listing, ' ');
     put_set(listing, row->next == NO_STATE ? 0 : (uint64_t)1 << row->next, draft->states);
-    put(listing, ' ');
-    put_text(listing, row->outputs, draft->outputs);
+    if (!draft->moore) {
+        put(listing, ' ');
+        put_text(listing, row->outputs, draft->outputs);
+    }
     put(listing, '\n');
 }
 
-/* Rows and dichotomies each in their order, mixed with one another by chance. */
-static void write_listing(struct chance *chance, const struct draft *draft, struct generated *listing)
+static void write_dichotomy(const struct draft *draft, const char *dichotomy, struct generated *listing)
 {
-    unsigned rows = 0;
-    unsigned dichotomies = 0;
-    listing->length = 0;
-    put_text(listing, "MC ", 3);
+    put_text(listing, "DI ", 3);
+    put_text(listing, dichotomy, draft->states);
+    put(listing, '\n');
+}
+
+static void write_outputs(const struct draft *draft, unsigned state, struct generated *listing)
+{
+    put_text(listing, "OU ", 3);
+    put_number(listing, state);
+    put(listing, ' ');
+    put_text(listing, draft->state_outputs[state], draft->outputs);
+    put(listing, '\n');
+}
+
+static void write_head(const struct draft *draft, struct generated *listing)
+{
+    put_text(listing, draft->moore ? "MO " : "MC ", 3);
     put_number(listing, draft->states);
     put(listing, ' ');
     put_number(listing, draft->inputs);
@@ -422,39 +511,75 @@ static void write_listing(struct chance *chance, const struct draft *draft, stru
     put_number(listing, draft->outputs);
     put(listing, ' ');
     put_number(listing, draft->width);
+    put_text(listing, draft->fifth, strlen(draft->fifth));
     put(listing, '\n');
-    while (rows < draft->rows || dichotomies < draft->dichotomies) {
-        unsigned left = draft->rows - rows + draft->dichotomies - dichotomies;
-        if (chance_below(chance, left) < draft->rows - rows) {
-            write_row(draft, &draft->row[rows], listing);
-            rows++;
+}
+
+/* Rows, dichotomies and the states' outputs each in their order, mixed with one another by chance. */
+static void write_listing(struct chance *chance, const struct draft *draft, struct generated *listing)
+{
+    unsigned rows = draft->rows; /* how many are left of each */
+    unsigned dichotomies = draft->dichotomies;
+    unsigned states = draft->moore ? draft->states : 0;
+    listing->length = 0;
+    write_head(draft, listing);
+    while (rows + dichotomies + states > 0) {
+        unsigned at = chance_below(chance, rows + dichotomies + states);
+        if (at < rows) {
+            write_row(draft, &draft->row[draft->rows - rows], listing);
+            rows--;
+        } else if (at < rows + dichotomies) {
+            write_dichotomy(draft, draft->dichotomy[draft->dichotomies - dichotomies], listing);
+            dichotomies--;
         } else {
-            put_text(listing, "DI ", 3);
-            put_text(listing, draft->dichotomy[dichotomies], draft->states);
-            put(listing, '\n');
-            dichotomies++;
+            write_outputs(draft, draft->told[draft->states - states], listing);
+            states--;
         }
     }
     put_text(listing, "EN\n", 3);
 }
 
-void generate_good(struct chance *chance, enum generate_family family, struct generated *listing)
+/* Everything but the sizes. */
+static void draw_rest(struct chance *chance, enum generate_family family, struct draft *draft)
 {
     static const unsigned output_dashes[] = {0, 1, 1, 2};
+    static const unsigned quiet_rows[] = {0, 1, 1, 2, 4};
+    static const char *const fifth[] = {"", "", " 0", " 1"};
+    draft->output_dashes = one_of(chance, output_dashes, LENGTH_OF(output_dashes));
+    draft->quiet_rows = one_of(chance, quiet_rows, LENGTH_OF(quiet_rows));
+    draft->fifth = fifth[chance_below(chance, LENGTH_OF(fifth))];
+    for (unsigned row = 0; row < draft->rows; row++)
+        draw_row(chance, family, draft, row);
+    for (unsigned dichotomy = 0; dichotomy < draft->dichotomies; dichotomy++)
+        draw_dichotomy(chance, draft, dichotomy);
+    if (family == GENERATE_CROWD)
+        draw_crowd(chance, draft);
+    if (!draft->moore)
+        return;
+    for (unsigned state = 0; state < draft->states; state++)
+        draw_state_outputs(chance, draft, state);
+    draw_order(chance, draft);
+}
+
+void generate_profile(struct chance *chance, enum generate_family family, bool moore, struct generated *listing)
+{
     static struct draft draft;
     draw_sizes(chance, family, &draft);
-    draft.output_dashes = one_of(chance, output_dashes, LENGTH_OF(output_dashes));
-    for (unsigned row = 0; row < draft.rows; row++)
-        draw_row(chance, family, &draft, row);
-    for (unsigned dichotomy = 0; dichotomy < draft.dichotomies; dichotomy++)
-        draw_dichotomy(chance, &draft, dichotomy);
-    if (family == GENERATE_CROWD)
-        draw_crowd(chance, &draft);
+    draft.moore = moore;
+    draw_rest(chance, family, &draft);
     write_listing(chance, &draft, listing);
     listing->kind = family;
     listing->states = draft.states;
     listing->inputs = draft.inputs;
     listing->outputs = draft.outputs;
+    listing->moore = moore;
+}
+
+/* A third are Moore machines. */
+void generate_good(struct chance *chance, enum generate_family family, struct generated *listing)
+{
+    bool moore = chance_part(chance, 1, 3);
+    generate_profile(chance, family, moore, listing);
 }
 
 const char *generate_kind_name(unsigned kind)

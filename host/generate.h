@@ -9,16 +9,17 @@
 
 struct generated {
     unsigned kind;   /* below GENERATE_KINDS: the family of a good one, the first damage of a damaged one */
-    unsigned states; /* of the machine that was drawn, before any damage; so too the next two */
+    unsigned states; /* of the machine that was drawn, before any damage; so too the next three */
     unsigned inputs;
     unsigned outputs;
+    bool moore;
     size_t length;
     uint8_t bytes[GENERATE_BYTES];
 };
 
 /* The families of good listings come first, then the kinds of damage. */
 #define GENERATE_FAMILIES 12
-#define GENERATE_DAMAGES 39
+#define GENERATE_DAMAGES 52
 #define GENERATE_KINDS (GENERATE_FAMILIES + GENERATE_DAMAGES)
 
 const char *generate_kind_name(unsigned kind);
@@ -43,6 +44,9 @@ enum generate_family {
     GENERATE_NARROW
 };
 void generate_good(struct chance *chance, enum generate_family family, struct generated *listing);
+
+/* The same, of a Moore machine or of none. */
+void generate_profile(struct chance *chance, enum generate_family family, bool moore, struct generated *listing);
 
 /* One damage of this number, below GENERATE_DAMAGES, to a listing (damage.c). */
 const char *generate_damage_name(unsigned damage);

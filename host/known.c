@@ -1,5 +1,6 @@
-/* The known answers of 01 that are whole listings: P1 to P4, P9, P10, 128 and 129 rows, and the 64 dichotomies; what 02's request
-   02 says of dashes in the outputs; and parts of P1's report and cover, worked by hand. */
+/* The known answers of 01 that are whole listings: P1 to P4, P9, P10, 128 and 129 rows, and the 64 dichotomies; what 02 says of
+   dashes in the outputs (request 02), of rows that say nothing (request 07) and of Moore machines (request 13); and parts of P1's
+   report and cover, worked by hand. */
 #include "known.h"
 
 /* What an entry must answer: a text, or, where that is NULL, a number; the widths have the number of the report. */
@@ -16,7 +17,13 @@ struct known {
 static const struct known known[] = {
     {"P1", "MC 3 1 1 0\nPT 0 110 001 1\nPT 1 101 100 0\nEN\n",
      "CT 2 5 0 2 17\nSC 0 00\nSC 1 10\nSC 2 01\nBY 0 0\nBY 1 1\nBY 2 0\nBY 3 1\nBY 4 0\nEN\n", 0,
+     ".i 3\n.o 3\n.type fd\n.p 1\n0-0 011\n.e\n", 0, "WD 1 2 0\nWD 2 0 1\nEN\n"},
+    {"P1, every row kept", "MC 3 1 1 0 1\nPT 0 110 001 1\nPT 1 101 100 0\nEN\n",
+     "CT 2 5 0 2 17\nSC 0 00\nSC 1 10\nSC 2 01\nBY 0 0\nBY 1 1\nBY 2 0\nBY 3 1\nBY 4 0\nEN\n", 0,
      ".i 3\n.o 3\n.type fd\n.p 2\n0-0 011\n10- 000\n.e\n", 0, "WD 1 2 0\nWD 2 0 1\nEN\n"},
+    {"P1, a fifth number 0", "MC 3 1 1 0 0\nPT 0 110 001 1\nPT 1 101 100 0\nEN\n",
+     "CT 2 5 0 2 17\nSC 0 00\nSC 1 10\nSC 2 01\nBY 0 0\nBY 1 1\nBY 2 0\nBY 3 1\nBY 4 0\nEN\n", 0,
+     ".i 3\n.o 3\n.type fd\n.p 1\n0-0 011\n.e\n", 0, "WD 1 2 0\nWD 2 0 1\nEN\n"},
     {"P2", "MC 3 1 1 1\nPT 0 110 001 1\nPT 1 101 100 0\nEN\n",
      "CT 1 5 2 1 12\nSC 0 0\nSC 1 1\nSC 2 0\nBY 0 0\nBY 2 0\nBY 4 0\nUN 1\nUN 3\nEN\n", 0,
      NULL, -900000, "WD 1 2 0\nWD 2 0 1\nEN\n"},
@@ -42,6 +49,61 @@ static const struct known known[] = {
     {"a dash kept where only the states are shared", "MC 2 1 1 0\nPT 0 11 01 1\nPT 1 10 10 -\nEN\n",
      "CT 1 1 0 1 2\nSC 0 0\nSC 1 1\nBY 0 0\nEN\n", 0,
      ".i 2\n.o 2\n.type fd\n.p 2\n0- 11\n10 0-\n.e\n", 0, "WD 1 0 1\nEN\n"},
+    /* 02, request 07: rows that say nothing, and rows that would but for one thing. */
+    {"rows left out: no next state, and state 0", "MC 2 1 2 0\nPT 0 10 00 00\nPT 1 10 01 00\nPT - 01 10 00\nPT 0 10 00 01\nEN\n",
+     "CT 1 1 0 1 2\nSC 0 0\nSC 1 1\nBY 0 0\nEN\n", 0,
+     ".i 2\n.o 3\n.type fd\n.p 2\n10 100\n00 001\n.e\n", 0, "WD 1 0 1\nEN\n"},
+    {"all rows left out", "MC 2 1 1 0\nPT 0 11 10 0\nPT 1 11 00 0\nEN\n",
+     "CT 1 1 0 1 2\nSC 0 0\nSC 1 1\nBY 0 0\nEN\n", 0,
+     ".i 2\n.o 2\n.type fd\n.p 0\n.e\n", 0, "WD 1 0 1\nEN\n"},
+    {"a dash that keeps its row", "MC 2 1 2 0\nPT 0 10 00 00\nPT 1 10 10 0-\nEN\n",
+     "CT 1 1 0 1 2\nSC 0 0\nSC 1 1\nBY 0 0\nEN\n", 0,
+     ".i 2\n.o 3\n.type fd\n.p 1\n10 00-\n.e\n", 0, "WD 1 0 1\nEN\n"},
+    {"a dash written 0 that keeps its row", "MC 2 1 1 0\nPT 0 11 01 1\nPT 0 10 00 -\nPT 0 01 00 0\nEN\n",
+     "CT 1 1 0 1 2\nSC 0 0\nSC 1 1\nBY 0 0\nEN\n", 0,
+     ".i 2\n.o 2\n.type fd\n.p 2\n0- 11\n00 00\n.e\n", 0, "WD 1 0 1\nEN\n"},
+    {"rows left out of a machine of no bits", "MC 1 1 1 0 0\nPT 0 1 1 0\nPT 1 1 0 0\nPT - 1 1 -\nEN\n",
+     "CT 0 0 0 0 0\nSC 0 -\nEN\n", 0,
+     ".i 1\n.o 1\n.type fd\n.p 1\n- -\n.e\n", 0, "EN\n"},
+    /* 02, request 13: a sequencer whose states give 00, 10 and -1, and whose OU lines are out of order. */
+    {"a sequencer", "MO 3 1 2 0\nPT 0 100 100\nOU 2 -1\nPT 1 100 010\nPT - 010 001\nOU 0 00\nPT - 001 100\nOU 1 10\nEN\n",
+     "CT 2 3 0 2 8\nSC 0 00\nSC 1 10\nSC 2 01\nBY 0 0\nBY 1 1\nBY 2 0\nEN\n", 0,
+     ".i 3\n.o 4\n.type fd\n.p 4\n100 1000\n-10 0100\n-10 0010\n-01 00-1\n.e\n", 0, "WD 1 1 0\nWD 2 0 1\nEN\n"},
+    {"a sequencer, a fifth number 0",
+     "MO 3 1 2 0 0\nOU 2 -1\nOU 1 10\nOU 0 00\nPT 0 100 100\nPT 1 100 010\nPT - 010 001\nPT - 001 100\nEN\n",
+     "CT 2 3 0 2 8\nSC 0 00\nSC 1 10\nSC 2 01\nBY 0 0\nBY 1 1\nBY 2 0\nEN\n", 0,
+     ".i 3\n.o 4\n.type fd\n.p 4\n100 1000\n-10 0100\n-10 0010\n-01 00-1\n.e\n", 0, "WD 1 1 0\nWD 2 0 1\nEN\n"},
+    {"a sequencer, every row kept",
+     "MO 3 1 2 0 1\nPT 0 100 100\nOU 2 -1\nPT 1 100 010\nPT - 010 001\nOU 0 00\nPT - 001 100\nOU 1 10\nEN\n",
+     "CT 2 3 0 2 8\nSC 0 00\nSC 1 10\nSC 2 01\nBY 0 0\nBY 1 1\nBY 2 0\nEN\n", 0,
+     ".i 3\n.o 4\n.type fd\n.p 7\n000 0000\n100 1000\n-10 0100\n-01 0000\n-00 0000\n-10 0010\n-01 00-1\n.e\n", 0,
+     "WD 1 1 0\nWD 2 0 1\nEN\n"},
+    {"P1 as a Moore machine", "MO 3 1 1 0\nOU 1 1\nPT 0 110 001\nPT 1 101 100\nOU 0 0\nOU 2 -\nEN\n",
+     "CT 2 5 0 2 17\nSC 0 00\nSC 1 10\nSC 2 01\nBY 0 0\nBY 1 1\nBY 2 0\nBY 3 1\nBY 4 0\nEN\n", 0,
+     ".i 3\n.o 3\n.type fd\n.p 3\n0-0 010\n-10 001\n-01 00-\n.e\n", 0, "WD 1 2 0\nWD 2 0 1\nEN\n"},
+    {"P2 as a Moore machine", "MO 3 1 1 1\nOU 1 1\nPT 0 110 001\nPT 1 101 100\nOU 0 0\nOU 2 -\nEN\n",
+     "CT 1 5 2 1 12\nSC 0 0\nSC 1 1\nSC 2 0\nBY 0 0\nBY 2 0\nBY 4 0\nUN 1\nUN 3\nEN\n", 0,
+     NULL, -900000, "WD 1 2 0\nWD 2 0 1\nEN\n"},
+    {"a Moore machine without rows", "MO 2 1 1 0\nOU 1 0\nOU 0 1\nEN\n",
+     "CT 1 1 0 1 2\nSC 0 0\nSC 1 1\nBY 0 0\nEN\n", 0,
+     ".i 2\n.o 2\n.type fd\n.p 1\n-0 01\n.e\n", 0, "WD 1 0 1\nEN\n"},
+    {"all added rows left out", "MO 2 1 1 0\nPT 0 10 01\nOU 0 0\nOU 1 0\nEN\n",
+     "CT 1 1 0 1 2\nSC 0 0\nSC 1 1\nBY 0 0\nEN\n", 0,
+     ".i 2\n.o 2\n.type fd\n.p 1\n00 10\n.e\n", 0, "WD 1 0 1\nEN\n"},
+    {"a Moore machine of no bits", "MO 1 2 2 0\nPT 01 1 1\nOU 0 1-\nEN\n",
+     "CT 0 0 0 0 0\nSC 0 -\nEN\n", 0,
+     ".i 2\n.o 2\n.type fd\n.p 1\n-- 1-\n.e\n", 0, "EN\n"},
+    {"a Moore machine of no bits, every row kept", "MO 1 2 2 0 1\nOU 0 00\nPT 01 1 1\nEN\n",
+     "CT 0 0 0 0 0\nSC 0 -\nEN\n", 0,
+     ".i 2\n.o 2\n.type fd\n.p 2\n01 00\n-- 00\n.e\n", 0, "EN\n"},
+    {"a dichotomy of a Moore machine", "MO 2 1 1 0\nOU 0 1\nDI ++\nOU 1 -\nEN\n",
+     "CT 2 2 0 2 6\nSC 0 00\nSC 1 10\nBY 0 0\nBY 1 1\nEN\n", 0,
+     ".i 3\n.o 3\n.type fd\n.p 2\n-00 001\n-10 00-\n.e\n", 0, "WD 1 1 1\nWD 2 0 1\nEN\n"},
+    {"a fifth number above 1", "MC 3 1 1 0 2\nEN\n", NULL, -200001, NULL, -200001, NULL},
+    {"a fifth number 01", "MC 3 1 1 0 01\nEN\n", NULL, -100001, NULL, -100001, NULL},
+    {"an empty fifth field", "MC 3 1 1 0 \nEN\n", NULL, -100001, NULL, -100001, NULL},
+    {"a sixth number", "MC 3 1 1 0 1 0\nEN\n", NULL, -100001, NULL, -100001, NULL},
+    {"1 for the fifth number before 2 for another", "MC 65 1 1 0 x\nEN\n", NULL, -100001, NULL, -100001, NULL},
     {"P9", "MC 3 1 1 0\nPT 0 110 100 1\nPT - 010 001 1\nEN\n", NULL, -600003, NULL, -600003, NULL},
     /* P10, which 02's request 09 moves to 64 and 65, speaks of first lines alone: with a bare `EN` behind it the first is
        accepted, the second refused. Read, but with nothing behind it, the first lacks its `EN`. */
@@ -51,7 +113,80 @@ static const struct known known[] = {
     {"width 65", "MC 64 1 1 65\nEN\n", NULL, -200001, NULL, -200001, NULL},
 };
 
-/* What is left of P1's report, which has 76 bytes, or of its cover, which has 43, lent so much room: a text, or, where that is
+/* Listings that every entry refuses: 02, request 13, and reading 29. */
+static const struct {
+    const char *name;
+    const char *listing;
+    int64_t number;
+} refused[] = {
+    {"an MO of 65 states", "MO 65 1 1 0\nEN\n", -200001},
+    {"an MO with a fifth number above 1", "MO 1 1 1 0 2\nOU 0 0\nEN\n", -200001},
+    {"an MO with a fifth number 01", "MO 1 1 1 0 01\nOU 0 0\nEN\n", -100001},
+    {"an MO with a sixth number", "MO 1 1 1 0 1 1\nOU 0 0\nEN\n", -100001},
+    {"an MO alone", "MO\nEN\n", -100001},
+    {"an MO without LF", "MO 1 1 1 0", -100001},
+    {"a mark that begins with MO", "MOX 1 1 1 0\nEN\n", -300001},
+    {"an OU on line 1", "OU 0 0\nEN\n", -300001},
+    {"an MC under MO", "MO 1 1 1 0\nMC 1 1 1 0\nOU 0 0\nEN\n", -300002},
+    {"an MO under MC", "MC 1 1 1 0\nMO 1 1 1 0\nEN\n", -300002},
+    {"an MO under MO", "MO 1 1 1 0\nOU 0 0\nMO 1 1 1 0\nEN\n", -300003},
+    {"an MO under MC, malformed and without LF", "MC 1 1 1 0\nMO x", -300002},
+    {"an OU under MC", "MC 1 1 1 0\nOU 0 0\nEN\n", -300002},
+    {"an OU under MC, alone", "MC 1 1 1 0\nOU\nEN\n", -300002},
+    {"an OU under MC, no number", "MC 1 1 1 0\nOU x 0\nEN\n", -300002},
+    {"an OU under MC, no such state", "MC 1 1 1 0\nOU 1 0\nEN\n", -300002},
+    {"an OU under MC, without LF", "MC 1 1 1 0\nOU 0 0", -300002},
+    {"a mark that begins with OU", "MO 1 1 1 0\nOUX 0 0\nEN\n", -100002},
+    {"a row with outputs under MO", "MO 2 1 1 0\nPT 0 10 01 1\nOU 0 0\nOU 1 0\nEN\n", -100002},
+    {"a row without outputs under MC", "MC 2 1 1 0\nPT 0 10 01\nEN\n", -100002},
+    {"a row of two fields under MO", "MO 2 1 1 0\nPT 0 10\nOU 0 0\nOU 1 0\nEN\n", -100002},
+    {"an empty group under MO", "MO 2 1 1 0\nPT 0 00 11\nOU 0 0\nOU 1 0\nEN\n", -400002},
+    {"two next states under MO", "MO 2 1 1 0\nPT 0 10 11\nOU 0 0\nOU 1 0\nEN\n", -500002},
+    {"a second OU", "MO 2 1 1 0\nOU 1 0\nOU 0 0\nOU 1 0\nEN\n", -300004},
+    {"a second OU, other outputs", "MO 2 1 1 0\nOU 0 0\nOU 0 1\nOU 1 0\nEN\n", -300003},
+    {"a second OU, no outputs", "MO 2 1 1 0\nOU 1 0\nOU 1\nEN\n", -300003},
+    {"a second OU, outputs too long", "MO 2 1 1 0\nOU 1 0\nOU 1 00\nEN\n", -300003},
+    {"a second OU, a wrong character", "MO 2 1 1 0\nOU 1 0\nOU 1 x\nEN\n", -300003},
+    {"a second OU, a field more", "MO 2 1 1 0\nOU 1 0\nOU 1 0 0\nEN\n", -300003},
+    {"a second OU, many fields more", "MO 2 1 1 0\nOU 1 0\nOU 1 0 0 0 0 0 0 0\nEN\n", -300003},
+    {"a second OU without LF", "MO 2 1 1 0\nOU 1 0\nOU 1 0", -300003},
+    {"a second OU of a number alone, without LF", "MO 2 1 1 0\nOU 1 0\nOU 1", -300003},
+    {"a second OU of state 63", "MO 64 1 1 0\nOU 63 0\nOU 63 0\nEN\n", -300003},
+    {"a second OU whose number is 01", "MO 2 1 1 0\nOU 1 0\nOU 01 0\nEN\n", -100003},
+    {"a second OU whose number is nothing", "MO 2 1 1 0\nOU 0 0\nOU  0\nEN\n", -100003},
+    {"an OU without LF", "MO 2 1 1 0\nOU 1 0\nOU 0 0", -100003},
+    {"an OU without LF, no number", "MO 2 1 1 0\nOU x", -100002},
+    {"an OU without LF, no such state", "MO 2 1 1 0\nOU 2 0", -100002},
+    {"an OU of state n", "MO 2 1 1 0\nOU 2 0\nOU 0 0\nOU 1 0\nEN\n", -200002},
+    {"an OU of state 64", "MO 64 1 1 0\nOU 0 0\nOU 64 0\nEN\n", -200003},
+    {"an OU of state 9999", "MO 2 1 1 0\nOU 9999 0\nEN\n", -200002},
+    {"an OU of state n, twice", "MO 1 1 1 0\nOU 0 0\nOU 1 0\nOU 1 0\nEN\n", -200003},
+    {"1 for the outputs before 2 for the state", "MO 2 1 1 0\nOU 2 x\nEN\n", -100002},
+    {"an OU alone", "MO 1 1 1 0\nOU\nEN\n", -100002},
+    {"an OU and a space", "MO 1 1 1 0\nOU \nEN\n", -100002},
+    {"an OU whose number is 00", "MO 1 1 1 0\nOU 00 0\nEN\n", -100002},
+    {"an OU whose number is x", "MO 1 1 1 0\nOU x 0\nEN\n", -100002},
+    {"an OU whose number is -1", "MO 1 1 1 0\nOU -1 0\nEN\n", -100002},
+    {"an OU whose number is 10000", "MO 1 1 1 0\nOU 10000 0\nEN\n", -100002},
+    {"an OU without outputs", "MO 1 1 2 0\nOU 0\nEN\n", -100002},
+    {"an OU with empty outputs", "MO 1 1 2 0\nOU 0 \nEN\n", -100002},
+    {"an OU, outputs too short", "MO 1 1 2 0\nOU 0 0\nEN\n", -100002},
+    {"an OU, outputs too long", "MO 1 1 2 0\nOU 0 000\nEN\n", -100002},
+    {"an OU, a wrong character", "MO 1 1 2 0\nOU 0 0+\nEN\n", -100002},
+    {"an OU, a field more", "MO 1 1 2 0\nOU 0 00 0\nEN\n", -100002},
+    {"an OU, a space more", "MO 1 1 2 0\nOU 0 00 \nEN\n", -100002},
+    {"a state without its OU", "MO 2 1 1 0\nOU 1 0\nEN\n", -1700003},
+    {"no OU at all", "MO 2 1 1 0\nEN\n", -1700002},
+    {"one OU of 64 states", "MO 64 1 1 0\nOU 0 0\nEN\n", -1700003},
+    {"17 before 6", "MO 3 1 1 0\nPT 0 110 100\nPT - 010 001\nOU 0 0\nOU 2 0\nEN\n", -1700006},
+    {"6 where each state has its OU", "MO 3 1 1 0\nPT 0 110 100\nOU 1 0\nPT - 010 001\nOU 0 0\nOU 2 0\nEN\n", -600004},
+    {"bytes after EN before 17", "MO 2 1 1 0\nOU 1 0\nEN\n\n", -300004},
+    {"no EN before 17", "MO 2 1 1 0\nOU 1 0\n", -300003},
+    {"an EN without LF before 17", "MO 2 1 1 0\nOU 1 0\nEN", -100003},
+    {"an EN with a field before 17", "MO 2 1 1 0\nOU 1 0\nEN 1\n", -100003},
+};
+
+/* What is left of P1's report, which has 76 bytes, or of its cover, which has 35, lent so much room: a text, or, where that is
    NULL, a number. */
 static const struct known_part {
     bool cover;
@@ -84,14 +219,14 @@ static const struct known_part {
     {false, SIZE_MAX, 100, NULL, 0},
     {true, 0, 4, NULL, -1000000},
     {true, 0, 5, ".i 3\n", 0},
-    {true, 0, 100, ".i 3\n.o 3\n.type fd\n.p 2\n0-0 011\n10- 000\n.e\n", 0},
+    {true, 0, 100, ".i 3\n.o 3\n.type fd\n.p 1\n0-0 011\n.e\n", 0},
     {true, 10, 8, NULL, -1000000},
     {true, 10, 13, ".type fd\n", 0},
-    {true, 10, 14, ".type fd\n.p 2\n", 0},
+    {true, 10, 14, ".type fd\n.p 1\n", 0},
     {true, 24, 8, "0-0 011\n", 0},
     {true, 27, 5, " 011\n", 0},
-    {true, 40, 3, ".e\n", 0},
-    {true, 43, 3, NULL, 0},
+    {true, 32, 3, ".e\n", 0},
+    {true, 35, 3, NULL, 0},
     {true, SIZE_MAX, 0, NULL, 0},
 };
 
@@ -105,6 +240,8 @@ static const struct refused_part {
     {"MC 3 1 1 0\nPT 0 110 100 1\nPT - 010 001 1\nEN\n", true, -600003},
     {"MC 3 1 1 1\nPT 0 110 001 1\nPT 1 101 100 0\nEN\n", true, -900000},
     {"MC 65 1 1 0\nEN\n", false, -200001},
+    {"MO 2 1 1 0\nOU 1 0\nEN\n", false, -1700003},
+    {"MO 2 1 1 0\nOU 1 0\nEN\n", true, -1700003},
 };
 
 static uint8_t listing[32768];
@@ -187,6 +324,36 @@ static void make_dichotomies(const char *head, unsigned states, rule *second)
     put("EN\n");
 }
 
+static void put_times(unsigned times, const char *text)
+{
+    for (; times > 0; times--)
+        put(text);
+}
+
+/* The longest cover: 64 bits, which the 64 dichotomies by parity take; 16 inputs and 32 outputs; 128 rows and an added one for each
+   of 64 states, all kept. */
+static void make_longest(void)
+{
+    make_dichotomies("MO 64 16 32 0 1\n", 64, by_parity);
+    length -= strlen("EN\n");
+    for (unsigned row = 0; row < 128; row++) {
+        put("PT ---------------- ");
+        put_times(row % 64, "0");
+        put("1");
+        put_times(63 - row % 64, "0");
+        put(" ");
+        put_times(64, "0");
+        put("\n");
+    }
+    for (unsigned state = 64; state-- > 0;) {
+        char number[] = {(char)('0' + state / 10), (char)('0' + state % 10), 0};
+        put("OU ");
+        put(state < 10 ? number + 1 : number);
+        put(" 10101010101010101010101010101010\n");
+    }
+    put("EN\n");
+}
+
 static bool starts(const char *name, const char *which, entry *run, const char *text)
 {
     int64_t answer = run(listing, length, out, sizeof out);
@@ -262,6 +429,30 @@ static unsigned run_dichotomies(const struct entries *encoder, const struct know
     return right;
 }
 
+/* 28 bytes of first lines, 192 rows of 178, and the end. */
+#define LONGEST_COVER (28 + 192 * 178 + 3)
+
+static unsigned run_longest(const struct entries *encoder)
+{
+    make_longest();
+    int64_t answer = encoder->cover(listing, length, out, sizeof out);
+    return judge("the longest cover", "cover", answer == LONGEST_COVER, answer) +
+           starts("the longest cover", "cover", encoder->cover, ".i 80\n.o 96\n.type fd\n.p 192\n----------------0");
+}
+
+static unsigned run_refused(const struct entries *encoder)
+{
+    unsigned right = 0;
+    for (unsigned at = 0; at < LENGTH_OF(refused); at++) {
+        length = 0;
+        put(refused[at].listing);
+        right += answers(refused[at].name, "report", encoder->report, NULL, refused[at].number);
+        right += answers(refused[at].name, "cover", encoder->cover, NULL, refused[at].number);
+        right += answers(refused[at].name, "widths", encoder->widths, NULL, refused[at].number);
+    }
+    return right;
+}
+
 unsigned known_run(const struct entries *encoder, unsigned *checks)
 {
     entry *report = encoder->report;
@@ -277,6 +468,9 @@ unsigned known_run(const struct entries *encoder, unsigned *checks)
         right += answers(one->name, "widths", encoder->widths, one->widths, one->report_number);
         asked += 3;
     }
+
+    right += run_refused(encoder);
+    asked += 3 * LENGTH_OF(refused);
 
     length = 0;
     put("MC 64 1 1 64\nEN\n");
@@ -303,6 +497,9 @@ unsigned known_run(const struct entries *encoder, unsigned *checks)
     for (unsigned at = 0; at < LENGTH_OF(known_dichotomies); at++)
         right += run_dichotomies(encoder, &known_dichotomies[at]);
     asked += 4 * LENGTH_OF(known_dichotomies);
+
+    right += run_longest(encoder);
+    asked += 2;
 
     make_dichotomies("MC 64 1 1 0\n", 64, by_parity);
     right += starts("64 dichotomies by parity", "widths", encoder->widths, "WD 1 1055 0\nWD 2 ");

@@ -33,6 +33,8 @@ struct native_machine {
     uint32_t width;
     uint32_t rows;
     uint32_t dichotomies;
+    bool moore;    /* the head line is `MO` */
+    uint64_t told; /* the states that have had their `OU` line */
     uint64_t group[NATIVE_ROWS];
     uint32_t low[NATIVE_ROWS];    /* the group's first 32 states again, or nobody where the row names no next state */
     uint32_t high[NATIVE_ROWS];   /* and the others */

@@ -70,28 +70,48 @@ static bool take_byte(struct walk *walk, uint8_t byte)
     return *walk->at++ == byte;
 }
 
+/* The width, and behind it a fifth number or none; no cover is written here, so what it says is not kept. */
+static bool take_last(struct walk *walk, uint32_t *width, uint32_t *fifth)
+{
+    struct walk start = *walk;
+    *fifth = 0;
+    if (take_number(walk, '\n', width))
+        return true;
+    *walk = start;
+    return take_number(walk, ' ', width) && take_number(walk, '\n', fifth);
+}
+
 static int64_t read_head(struct walk *walk, struct native_machine *machine)
 {
+    uint32_t fifth;
     if (walk->at == walk->end || *walk->at++ != ' ')
         return refusal(1, 1);
     if (!take_number(walk, ' ', &machine->states) || !take_number(walk, ' ', &machine->inputs) ||
-        !take_number(walk, ' ', &machine->outputs) || !take_number(walk, '\n', &machine->width))
+        !take_number(walk, ' ', &machine->outputs) || !take_last(walk, &machine->width, &fifth))
         return refusal(1, 1);
     if (machine->states - 1 >= NATIVE_STATES || machine->inputs - 1 >= NATIVE_INPUTS ||
-        machine->outputs - 1 >= NATIVE_OUTPUTS || machine->width > NATIVE_STATES)
+        machine->outputs - 1 >= NATIVE_OUTPUTS || machine->width > NATIVE_STATES || fifth > 1)
         return refusal(2, 1);
     return 0;
 }
 
+/* A row's outputs and the space before them, of which nothing is kept; a Moore machine's row has none. */
+static bool take_outputs(struct walk *walk, const struct native_machine *machine)
+{
+    uint64_t zeros, ones;
+    return machine->moore || (take_byte(walk, ' ') && take_places(walk, machine->outputs, "01-", &zeros, &ones));
+}
+
 static int64_t read_row(struct walk *walk, uint32_t line, struct native_machine *machine)
 {
-    uint64_t group, next, zeros, ones, low, high;
+    uint64_t group, next, zeros, ones;
     uint32_t row = machine->rows;
-    if (walk->end - walk->at < (long)(machine->inputs + 2 * machine->states + machine->outputs + 5))
+    uint32_t outputs = machine->moore ? 0 : machine->outputs + 1;
+    if (walk->end - walk->at < (long)(machine->inputs + 2 * machine->states + outputs + 4))
         return refusal(1, line);
     if (!take_byte(walk, ' ') || !take_places(walk, machine->inputs, "01-", &zeros, &ones) || !take_byte(walk, ' ') ||
         !take_set(walk, machine->states, &group) || !take_byte(walk, ' ') || !take_set(walk, machine->states, &next) ||
-        !take_byte(walk, ' ') || !take_places(walk, machine->outputs, "01-", &low, &high) || !take_byte(walk, '\n'))
+        !take_outputs(walk, machine) || !take_byte(walk, '\n'))
         return refusal(1, line);
     if (row == NATIVE_ROWS)
         return refusal(2, line);
@@ -122,6 +142,42 @@ static int64_t read_dichotomy(struct walk *walk, uint32_t line, struct native_ma
     machine->first[machine->dichotomies] = first;
     machine->second[machine->dichotomies] = second;
     machine->dichotomies++;
+    return 0;
+}
+
+/* The number of an `OU` line, its first field, if it is one; the walk then stands behind it. */
+static bool take_state(struct walk *walk, uint32_t *state)
+{
+    const uint8_t *start = walk->at + 1;
+    if (walk->at == walk->end || *walk->at != ' ')
+        return false;
+    walk->at = start;
+    *state = 0;
+    while (walk->at < walk->end && walk->at - start < 5 && (uint8_t)(*walk->at - '0') <= 9)
+        *state = *state * 10 + (uint32_t)(*walk->at++ - '0');
+    if (walk->at == start || walk->at - start > 4 || (*start == '0' && walk->at - start > 1))
+        return false;
+    return walk->at == walk->end || *walk->at == ' ' || *walk->at == '\n';
+}
+
+/* Its place is judged first: a second one for its state is 3, whatever else the line is. */
+static int64_t read_outputs(struct walk *walk, uint32_t line, struct native_machine *machine)
+{
+    uint64_t zeros, ones;
+    uint32_t state;
+    if (!machine->moore)
+        return refusal(3, line);
+    if (!take_state(walk, &state))
+        return refusal(1, line);
+    if (state < machine->states && (machine->told >> state & 1))
+        return refusal(3, line);
+    if (walk->end - walk->at < (long)(machine->outputs + 2))
+        return refusal(1, line);
+    if (!take_byte(walk, ' ') || !take_places(walk, machine->outputs, "01-", &zeros, &ones) || !take_byte(walk, '\n'))
+        return refusal(1, line);
+    if (state >= machine->states)
+        return refusal(2, line);
+    machine->told |= (uint64_t)1 << state;
     return 0;
 }
 
@@ -158,31 +214,48 @@ static int64_t find_conflict(const struct native_machine *machine)
     return 0;
 }
 
+/* What is left to judge behind a good `EN` line: nothing more, the states without an `OU` line, the rows. */
+static int64_t judge_end(const struct walk *walk, uint32_t line, const struct native_machine *machine)
+{
+    if (walk->at + 1 != walk->end)
+        return refusal(3, line + 1);
+    if (machine->moore && machine->told != native_all_states(machine->states))
+        return refusal(17, line);
+    return find_conflict(machine);
+}
+
+/* A line that is not the first and no `EN` line. */
+static int64_t read_line(struct walk *walk, uint32_t mark, uint32_t line, struct native_machine *machine)
+{
+    if (mark == MARK('P', 'T'))
+        return read_row(walk, line, machine);
+    if (mark == MARK('O', 'U'))
+        return read_outputs(walk, line, machine);
+    if (mark == MARK('D', 'I'))
+        return read_dichotomy(walk, line, machine);
+    return refusal(1, line);
+}
+
 int64_t native_read(const uint8_t *listing, size_t length, struct native_machine *machine)
 {
     struct walk walk = {listing, listing + length};
     machine->rows = 0;
     machine->dichotomies = 0;
+    machine->told = 0;
     if (length > NATIVE_BYTES)
         return refusal(2, 0);
     for (uint32_t line = 1; walk.at < walk.end; line++) {
         uint32_t mark = mark_at(&walk);
-        int64_t fault = 0;
-        if ((line == 1) != (mark == MARK('M', 'C')))
+        bool is_head = mark == MARK('M', 'C') || mark == MARK('M', 'O');
+        if ((line == 1) != is_head)
             return refusal(3, line);
         if (mark == 0)
             return refusal(1, line);
         walk.at += 2;
-        if (mark == MARK('P', 'T'))
-            fault = read_row(&walk, line, machine);
-        else if (mark == MARK('D', 'I'))
-            fault = read_dichotomy(&walk, line, machine);
-        else if (mark == MARK('M', 'C'))
-            fault = read_head(&walk, machine);
-        else if (mark != MARK('E', 'N') || walk.at == walk.end || *walk.at != '\n')
-            fault = refusal(1, line);
-        else
-            return walk.at + 1 == walk.end ? find_conflict(machine) : refusal(3, line + 1);
+        if (mark == MARK('E', 'N') && walk.at < walk.end && *walk.at == '\n')
+            return judge_end(&walk, line, machine);
+        machine->moore = is_head ? mark == MARK('M', 'O') : machine->moore;
+        int64_t fault = is_head ? read_head(&walk, machine) : read_line(&walk, mark, line, machine);
         if (fault != 0)
             return fault;
         if (walk.at == walk.end)

@@ -158,10 +158,10 @@ char second_face_place(uint64_t group, uint64_t bit)
 }
 
 /* Whether the row "shares an input vector and a state with a row that says 1 for that output" (02, request 02), a row before
-   it or behind it (reading 22). */
+   it or behind it (reading 22), an added one too. */
 static bool meets_a_one(const struct second_machine *machine, const struct second_row *row, unsigned place)
 {
-    for (unsigned at = 0; at < machine->rows; at++) {
+    for (unsigned at = 0; at < machine->cover_rows; at++) {
         const struct second_row *other = &machine->row[at];
         if (other->outputs[place] != '1')
             continue;
@@ -200,8 +200,36 @@ static void write_cover_row(const struct second_machine *machine, const struct s
     put_byte(text, '\n');
 }
 
-/* "Cover: `.i` (i + bits), `.o` (bits + o), `.p` (rows), a line per `PT` in order, `.e`"; 02, request 02: "put `.type fd`
-   before `.p`", in every cover (reading 22). */
+/* 02, request 07: "A row whose next code and outputs are all zeros adds nothing to an array." No next state is zeros, and so are
+   no bits; the outputs are the listing's, so that a dash keeps its row even where it is written `0` (reading 24). */
+static bool says_nothing(const struct second_machine *machine, const struct second_row *row, const struct second_code *code)
+{
+    for (unsigned place = 0; place < code->bits; place++)
+        if (row->next != SECOND_NO_STATE && (code->bit[place] >> row->next & 1))
+            return false;
+    for (unsigned place = 0; place < machine->outputs; place++)
+        if (row->outputs[place] != '0')
+            return false;
+    return true;
+}
+
+/* "the cover writer leaves these out unless asked" */
+static bool is_printed(const struct second_machine *machine, const struct second_row *row, const struct second_code *code)
+{
+    return machine->keep == 1 || !says_nothing(machine, row, code);
+}
+
+/* "`.p` counts what is printed" */
+static unsigned count_printed(const struct second_machine *machine, const struct second_code *code)
+{
+    unsigned printed = 0;
+    for (unsigned row = 0; row < machine->cover_rows; row++)
+        printed += is_printed(machine, &machine->row[row], code);
+    return printed;
+}
+
+/* "Cover: `.i` (i + bits), `.o` (bits + o), `.p` (rows), a line per `PT` in order, `.e`", of the rows that are printed; 02,
+   request 02: "put `.type fd` before `.p`", in every cover (reading 22); the added rows of a Moore machine are the last. */
 static void write_cover(const struct second_machine *machine, const struct second_code *code, struct text *text)
 {
     put_word_number(text, ".i", machine->inputs + code->bits);
@@ -209,10 +237,11 @@ static void write_cover(const struct second_machine *machine, const struct secon
     put_word_number(text, ".o", code->bits + machine->outputs);
     put_byte(text, '\n');
     put_word(text, ".type fd\n");
-    put_word_number(text, ".p", machine->rows);
+    put_word_number(text, ".p", count_printed(machine, code));
     put_byte(text, '\n');
-    for (unsigned row = 0; row < machine->rows; row++)
-        write_cover_row(machine, &machine->row[row], code, text);
+    for (unsigned row = 0; row < machine->cover_rows; row++)
+        if (is_printed(machine, &machine->row[row], code))
+            write_cover_row(machine, &machine->row[row], code, text);
     put_word(text, ".e\n");
 }
 

@@ -20,11 +20,14 @@
 /* 01, "Looks": the trial record takes a list of at most 256. */
 #define SECOND_TRIAL_REQUIREMENTS 256
 
+/* 02, request 13: the cover of a Moore machine has "one row for each state" more than the listing. */
+#define SECOND_COVER_ROWS (SECOND_ROWS + SECOND_STATES)
+
 /* No text that the encoder prints is longer: a BY line has at most 12 bytes, an UN line 9, an SC line 71, a cover row
    178, and the other lines together far fewer than 256. */
-#define SECOND_TEXT (SECOND_REQUIREMENTS * 12 + SECOND_STATES * 71 + SECOND_ROWS * 178 + 256)
+#define SECOND_TEXT (SECOND_REQUIREMENTS * 12 + SECOND_STATES * 71 + SECOND_COVER_ROWS * 178 + 256)
 
-/* 01, "Refusal numbers". SECOND_FINE stands for no refusal; 8 is unused (02, request 06). */
+/* 01, "Refusal numbers", and 17 of 02's request 13. SECOND_FINE stands for no refusal; 8 is unused (02, request 06). */
 enum {
     SECOND_FINE = 0,
     SECOND_BAD_LINE = 1,
@@ -36,7 +39,8 @@ enum {
     SECOND_TOO_WIDE = 7,
     SECOND_UNMET = 9,
     SECOND_NO_ROOM = 10,
-    SECOND_BAD_CALL = 11
+    SECOND_BAD_CALL = 11,
+    SECOND_UNTOLD = 17 /* a state of a Moore machine without an `OU` line */
 };
 
 struct second_refusal {
@@ -66,8 +70,13 @@ struct second_machine {
     unsigned inputs;
     unsigned outputs;
     unsigned width;
-    unsigned rows;
-    struct second_row row[SECOND_ROWS];
+    unsigned keep; /* the fifth number: 1 has every row in the cover, 0 those that say something */
+    bool moore;    /* the head line is `MO` */
+    uint64_t told; /* the states that have had their `OU` line, and its outputs */
+    uint8_t told_outputs[SECOND_STATES][SECOND_OUTPUTS];
+    unsigned rows;       /* those of the listing */
+    unsigned cover_rows; /* and, behind them, of a Moore machine that is read, the one added for each state */
+    struct second_row row[SECOND_COVER_ROWS];
     unsigned dichotomies;
     struct second_requirement dichotomy[SECOND_DICHOTOMIES];
 };

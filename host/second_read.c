@@ -1,4 +1,4 @@
-/* The second encoder's reader: from a listing's bytes to a machine, or to the refusal (1 to 6) that 01 names. */
+/* The second encoder's reader: from a listing's bytes to a machine, or to the refusal (1 to 6, and 17) that 01 and 02 name. */
 #include "second.h"
 
 struct field {
@@ -13,8 +13,8 @@ struct line {
     bool ended;
 };
 
-/* The most fields that a line of any mark has: PT and MC have five. */
-#define FIELDS 5
+/* The most fields that a line of any mark has: PT has five, MC and MO five or six. */
+#define FIELDS 6
 
 static struct second_refusal refuse(unsigned number, unsigned line)
 {
@@ -108,13 +108,18 @@ static uint64_t states_with(struct field field, char character)
     return set;
 }
 
-/* "`MC n i o w`: states 1..32, inputs 1..16, outputs 1..32, width 0..32"; 64 for states and width (02, request 09). */
-static unsigned read_mc(const struct field *field, size_t fields, struct second_machine *machine)
+/* "`MC n i o w`: states 1..32, inputs 1..16, outputs 1..32, width 0..32"; 64 for states and width (02, request 09). "An optional
+   fifth number on `MC`, 1, keeps every row; 0 or absence drops them", and "a fifth number above 1 is 2" (02, request 07); a
+   sixth is 1 (reading 24). `MO` has the same numbers (02, request 13). */
+static unsigned read_head(const struct field *field, size_t fields, struct second_machine *machine)
 {
-    if (fields != 5)
+    machine->keep = 0;
+    if (fields != 5 && fields != 6)
         return SECOND_BAD_LINE;
     if (!read_number(field[1], &machine->states) || !read_number(field[2], &machine->inputs) ||
         !read_number(field[3], &machine->outputs) || !read_number(field[4], &machine->width))
+        return SECOND_BAD_LINE;
+    if (fields == 6 && !read_number(field[5], &machine->keep))
         return SECOND_BAD_LINE;
     if (machine->states < 1 || machine->states > SECOND_STATES)
         return SECOND_LIMIT;
@@ -124,16 +129,27 @@ static unsigned read_mc(const struct field *field, size_t fields, struct second_
         return SECOND_LIMIT;
     if (machine->width > SECOND_WIDTH)
         return SECOND_LIMIT;
+    if (machine->keep > 1)
+        return SECOND_LIMIT;
     return SECOND_FINE;
 }
 
-/* "`PT input group next outputs`: a row." Within the line 1, then 2 for the 129th, then 4, then 5 (reading 7). */
+/* "`PT input group next outputs`: a row"; under `MO` "rows then have no outputs" (02, request 13). */
+static bool is_good_row(const struct field *field, size_t fields, const struct second_machine *machine)
+{
+    if (fields != (machine->moore ? 4 : 5))
+        return false;
+    if (!has_form(field[1], machine->inputs, "01-") || !has_form(field[2], machine->states, "01") ||
+        !has_form(field[3], machine->states, "01"))
+        return false;
+    return machine->moore || has_form(field[4], machine->outputs, "01-");
+}
+
+/* Within the line 1, then 2 for the 129th, then 4, then 5 (reading 7). "The cover prints the rows with zeros for outputs", those
+   of a Moore machine. */
 static unsigned read_pt(const struct field *field, size_t fields, unsigned line, struct second_machine *machine)
 {
-    if (fields != 5)
-        return SECOND_BAD_LINE;
-    if (!has_form(field[1], machine->inputs, "01-") || !has_form(field[2], machine->states, "01") ||
-        !has_form(field[3], machine->states, "01") || !has_form(field[4], machine->outputs, "01-"))
+    if (!is_good_row(field, fields, machine))
         return SECOND_BAD_LINE;
     if (machine->rows == SECOND_ROWS)
         return SECOND_LIMIT;
@@ -151,7 +167,9 @@ static unsigned read_pt(const struct field *field, size_t fields, unsigned line,
         if (next >> state & 1)
             row->next = (int)state;
     memcpy(row->input, field[1].at, machine->inputs);
-    memcpy(row->outputs, field[4].at, machine->outputs);
+    memset(row->outputs, '0', sizeof row->outputs);
+    if (!machine->moore)
+        memcpy(row->outputs, field[4].at, machine->outputs);
     machine->rows++;
     return SECOND_FINE;
 }
@@ -172,27 +190,66 @@ static unsigned read_di(const struct field *field, size_t fields, struct second_
     return SECOND_FINE;
 }
 
+/* "any `OU` under `MC`" is 3, and so is "a second `OU` for a state", before 1 "as soon as its number can be read" (reading 29),
+   whatever else is on the line. */
+static bool is_misplaced(const struct field *field, size_t fields, const struct second_machine *machine)
+{
+    unsigned state;
+    if (!machine->moore)
+        return true;
+    if (fields < 2 || !read_number(field[1], &state))
+        return false;
+    return state < machine->states && (machine->told >> state & 1);
+}
+
+/* 02, request 13: "each state has one line `OU state outputs`", the outputs as a row has them elsewhere (reading 29); "an `OU`
+   state not below n is 2". */
+static unsigned read_ou(const struct field *field, size_t fields, struct second_machine *machine)
+{
+    unsigned state;
+    if (fields != 3)
+        return SECOND_BAD_LINE;
+    if (!read_number(field[1], &state) || !has_form(field[2], machine->outputs, "01-"))
+        return SECOND_BAD_LINE;
+    if (state >= machine->states)
+        return SECOND_LIMIT;
+    machine->told |= (uint64_t)1 << state;
+    memcpy(machine->told_outputs[state], field[2].at, machine->outputs);
+    return SECOND_FINE;
+}
+
+/* The place of a line, 3 if it is wrong: "On line 1 a mark other than `MC`, known or not, is 3"; "a second `MC`" is 3. `MO` may
+   stand "in place of `MC`", and "a second head line of either kind" is 3. */
+static bool is_in_place(const struct field *field, size_t fields, unsigned number, const struct second_machine *machine)
+{
+    bool is_head = is_mark(field[0], "MC") || is_mark(field[0], "MO");
+    if (number == 1 && !is_head)
+        return false;
+    if (number != 1 && is_head)
+        return false;
+    return number == 1 || !is_mark(field[0], "OU") || !is_misplaced(field, fields, machine);
+}
+
 /* One line before the end, numbered from 1: "within it 3, 1, 2, 4, 5". *at_end tells that it was a good `EN`. */
 static unsigned read_line(struct line line, unsigned number, struct second_machine *machine, bool *at_end)
 {
     struct field field[FIELDS];
     size_t fields = split(line, field);
-    bool is_head = is_mark(field[0], "MC");
-
-    /* "On line 1 a mark other than `MC`, known or not, is 3"; "a second `MC`" is 3. */
-    if (number == 1 && !is_head)
-        return SECOND_PLACE;
-    if (number != 1 && is_head)
+    if (!is_in_place(field, fields, number, machine))
         return SECOND_PLACE;
 
     /* "LF missing" is 1, before anything about the fields (reading 1). */
     if (!line.ended)
         return SECOND_BAD_LINE;
 
-    if (is_head)
-        return read_mc(field, fields, machine);
+    if (number == 1) {
+        machine->moore = is_mark(field[0], "MO");
+        return read_head(field, fields, machine);
+    }
     if (is_mark(field[0], "PT"))
         return read_pt(field, fields, number, machine);
+    if (is_mark(field[0], "OU"))
+        return read_ou(field, fields, machine);
     if (is_mark(field[0], "DI"))
         return read_di(field, fields, machine);
     if (is_mark(field[0], "EN")) {
@@ -206,23 +263,48 @@ static unsigned read_line(struct line line, unsigned number, struct second_machi
     return SECOND_BAD_LINE;
 }
 
+/* A machine of which nothing has been read. */
+static void clear(struct second_machine *machine)
+{
+    machine->moore = false;
+    machine->told = 0;
+    machine->rows = 0;
+    machine->cover_rows = 0;
+    machine->dichotomies = 0;
+}
+
 /* P10's "first lines alone": the head line with its LF (reading 10). */
 struct second_refusal second_read_head(const uint8_t *listing, size_t length, struct second_machine *machine)
 {
     size_t at = 0;
     bool at_end = false;
-    machine->rows = 0;
-    machine->dichotomies = 0;
+    clear(machine);
     unsigned fault = read_line(take_line(listing, length, &at), 1, machine, &at_end);
     return refuse(fault, fault == SECOND_FINE ? 0 : 1);
 }
 
+/* "then one row for each state: dashes for the inputs, the state's code, zeros for the next code, its outputs", in state order
+   (reading 29): the row of a group of one state that names no next one. */
+static void add_rows(struct second_machine *machine)
+{
+    machine->cover_rows = machine->rows;
+    for (unsigned state = 0; machine->moore && state < machine->states; state++) {
+        struct second_row *row = &machine->row[machine->cover_rows];
+        row->line = 0;
+        memset(row->input, '-', sizeof row->input);
+        row->group = (uint64_t)1 << state;
+        row->next = SECOND_NO_STATE;
+        memcpy(row->outputs, machine->told_outputs[state], sizeof row->outputs);
+        machine->cover_rows++;
+    }
+}
+
 /* "Order: too long; then lines from the top, the first faulty line decides". "bytes after `EN`" are 3 at the line they
-   begin (reading 4); without `EN` it is 3 at "one past the last" (reading 5), so an empty listing is 3 at line 1. */
+   begin (reading 4); without `EN` it is 3 at "one past the last" (reading 5), so an empty listing is 3 at line 1. "a state
+   without one is 17 at the `EN` line", the last, after all lines (reading 29). */
 struct second_refusal second_read_lines(const uint8_t *listing, size_t length, struct second_machine *machine)
 {
-    machine->rows = 0;
-    machine->dichotomies = 0;
+    clear(machine);
     if (length > SECOND_BYTES)
         return refuse(SECOND_LIMIT, 0);
     size_t at = 0;
@@ -238,6 +320,9 @@ struct second_refusal second_read_lines(const uint8_t *listing, size_t length, s
     }
     if (!at_end)
         return refuse(SECOND_PLACE, number);
+    if (machine->moore && machine->told != second_all_states(machine->states))
+        return refuse(SECOND_UNTOLD, number - 1);
+    add_rows(machine);
     return refuse(SECOND_FINE, 0);
 }
 

@@ -90,7 +90,6 @@ static const struct refused refused[] = {
     {"MC\nEN\n", 0, 1, 1},
     {"MC 1\nEN\n", 0, 1, 1},
     {"MC 1 1 1\nEN\n", 0, 1, 1},
-    {"MC 1 1 1 0 0\nEN\n", 0, 1, 1},
     {"MC 1 1 1 0\nMC\nEN\n", 0, 3, 2},
     {"MC 1 1 1 0\nMC x\nEN\n", 0, 3, 2},
     {"MC 1 1 1 0\nMC 65 1 1 0\nEN\n", 0, 3, 2},
@@ -153,7 +152,6 @@ static const struct refused refused[] = {
     {"MC 1 1 1 0\r\nEN\n", 0, 1, 1},
     {"MC 65 1 1 x\nEN\n", 0, 1, 1},
     {"MC 65 1 1\nEN\n", 0, 1, 1},
-    {"MC 0 0 0 0 0\nEN\n", 0, 1, 1},
     {"MC 65 1 1 0\nEN\n", 0, 2, 1},
     {"MC 0 1 1 0\nEN\n", 0, 2, 1},
     {"MC 1 0 1 0\nEN\n", 0, 2, 1},
@@ -169,6 +167,39 @@ static const struct refused refused[] = {
     {"MC 0 17 33 65\nEN\n", 0, 2, 1},
     {"MC 65 1 1 0\nX\n", 0, 2, 1},
     {"MC 65 1 1 0\n", 0, 2, 1},
+
+    /* Reading 24: the fifth number, written as the others are, 1 before 2, and no sixth. */
+    {"MC 1 1 1 0 2\nEN\n", 0, 2, 1},
+    {"MC 1 1 1 0 10\nEN\n", 0, 2, 1},
+    {"MC 1 1 1 0 256\nEN\n", 0, 2, 1},
+    {"MC 1 1 1 0 257\nEN\n", 0, 2, 1},
+    {"MC 1 1 1 0 9999\nEN\n", 0, 2, 1},
+    {"MC 0 0 0 0 0\nEN\n", 0, 2, 1},
+    {"MC 65 1 1 0 1\nEN\n", 0, 2, 1},
+    {"MC 65 1 1 0 2\nEN\n", 0, 2, 1},
+    {"MC 1 1 1 0 00\nEN\n", 0, 1, 1},
+    {"MC 1 1 1 0 01\nEN\n", 0, 1, 1},
+    {"MC 1 1 1 0 10000\nEN\n", 0, 1, 1},
+    {"MC 1 1 1 0 x\nEN\n", 0, 1, 1},
+    {"MC 1 1 1 0 -\nEN\n", 0, 1, 1},
+    {"MC 1 1 1 0 +1\nEN\n", 0, 1, 1},
+    {"MC 1 1 1 0 1\r\nEN\n", 0, 1, 1},
+    {"MC 1 1 1  1\nEN\n", 0, 1, 1},
+    {"MC 1 1 1 0  1\nEN\n", 0, 1, 1},
+    {"MC 1 1 1 0 1 \nEN\n", 0, 1, 1},
+    {"MC 1 1 1 0 1 1\nEN\n", 0, 1, 1},
+    {"MC 1 1 1 0 0 0\nEN\n", 0, 1, 1},
+    {"MC 1 1 1 0 1 0 0\nEN\n", 0, 1, 1},
+    {"MC 1 1 1 0 2 0\nEN\n", 0, 1, 1},
+    {"MC 65 1 1 0 x\nEN\n", 0, 1, 1},
+    {"MC 65 1 1 0 01\nEN\n", 0, 1, 1},
+    {"MC 65 1 1 0 1 1\nEN\n", 0, 1, 1},
+    {"MC 1 1 1 x 2\nEN\n", 0, 1, 1},
+    {"MC 1 1 1 0 1", 0, 1, 1},
+    {"MC 1 1 1 0 2", 0, 1, 1},
+    {"MC 1 1 1 0 1\n", 0, 3, 2},
+    {"MC 1 1 1 0 1\nMC 1 1 1 0 1\nEN\n", 0, 3, 2},
+    {"MC 1 1 1 0 1\nPT 0 1 0 1 1\nEN\n", 0, 1, 2},
 
     /* Fields of a row and of a dichotomy: lengths and characters. */
     {"MC 2 2 2 0\nPT 0 11 01 11\nEN\n", 0, 1, 2},
@@ -398,19 +429,30 @@ static const struct {
     /* Output dashes, a row that names no next state, a face of one state and one of all. */
     {"MC 2 2 3 0\nPT 0- 10 01 1-0\nPT -1 01 00 -11\nPT 11 11 10 000\nEN\n",
      "CT 1 1 0 1 2\nSC 0 0\nSC 1 1\nBY 0 0\nEN\n",
+     ".i 3\n.o 4\n.type fd\n.p 2\n0-0 11-0\n-11 0-11\n.e\n"},
+    {"MC 2 2 3 0 1\nPT 0- 10 01 1-0\nPT -1 01 00 -11\nPT 11 11 10 000\nEN\n",
+     "CT 1 1 0 1 2\nSC 0 0\nSC 1 1\nBY 0 0\nEN\n",
      ".i 3\n.o 4\n.type fd\n.p 3\n0-0 11-0\n-11 0-11\n11- 0000\n.e\n"},
     /* Dashes of one row that meet a 1 behind it or none, of one that meet a 1 before it, and of one that share only the inputs
        with a 1, or only the state. */
     {"MC 2 2 3 0\nPT 0- 11 00 -1-\nPT -1 10 01 1-0\nPT 1- 01 00 --1\nEN\n",
      "CT 1 1 0 1 2\nSC 0 0\nSC 1 1\nBY 0 0\nEN\n",
      ".i 3\n.o 4\n.type fd\n.p 3\n0-- 001-\n-10 1100\n1-1 0--1\n.e\n"},
+    /* Reading 24: no bits are zeros, and so is the one bit that a dichotomy asks of one state. */
+    {"MC 1 1 2 0\nPT 0 1 1 00\nPT 1 1 1 01\nEN\n", "CT 0 0 0 0 0\nSC 0 -\nEN\n", ".i 1\n.o 2\n.type fd\n.p 1\n1 01\n.e\n"},
+    {"MC 1 1 1 0\nDI +\nPT 0 1 1 0\nPT 1 1 0 -\nEN\n", "CT 1 1 0 1 1\nSC 0 0\nBY 0 0\nEN\n",
+     ".i 2\n.o 2\n.type fd\n.p 1\n10 0-\n.e\n"},
+    /* A row is kept for the second bit of its next code; a dash keeps one though the row behind it has it written 0. */
+    {"MC 3 1 1 0 0\nPT 0 100 001 0\nPT 1 100 000 -\nPT 1 100 000 1\nPT 1 010 100 0\nEN\n",
+     "CT 2 3 0 2 8\nSC 0 00\nSC 1 10\nSC 2 01\nBY 0 0\nBY 1 1\nBY 2 0\nEN\n",
+     ".i 3\n.o 3\n.type fd\n.p 3\n000 010\n100 000\n100 001\n.e\n"},
     /* Reading 16: a width above need builds fewer bits. P1 again. */
-    {"MC 3 1 1 64\nPT 0 110 001 1\nPT 1 101 100 0\nEN\n",
+    {"MC 3 1 1 64 1\nPT 0 110 001 1\nPT 1 101 100 0\nEN\n",
      "CT 2 5 0 2 17\nSC 0 00\nSC 1 10\nSC 2 01\nBY 0 0\nBY 1 1\nBY 2 0\nBY 3 1\nBY 4 0\nEN\n",
      ".i 3\n.o 3\n.type fd\n.p 2\n0-0 011\n10- 000\n.e\n"},
     {"MC 3 1 1 2\nPT 0 110 001 1\nPT 1 101 100 0\nEN\n",
      "CT 2 5 0 2 17\nSC 0 00\nSC 1 10\nSC 2 01\nBY 0 0\nBY 1 1\nBY 2 0\nBY 3 1\nBY 4 0\nEN\n",
-     ".i 3\n.o 3\n.type fd\n.p 2\n0-0 011\n10- 000\n.e\n"},
+     ".i 3\n.o 3\n.type fd\n.p 1\n0-0 011\n.e\n"},
 };
 
 static bool answers(entry *run, const char *text)
@@ -548,8 +590,10 @@ static void test_parts(void)
     start("MC 3 1 1 0\nPT 0 110 001 1\nPT 1 101 100 0\nEN\n");
     check_all_parts(second_report_part,
                     "CT 2 5 0 2 17\nSC 0 00\nSC 1 10\nSC 2 01\nBY 0 0\nBY 1 1\nBY 2 0\nBY 3 1\nBY 4 0\nEN\n");
-    check_all_parts(second_cover_part, ".i 3\n.o 3\n.type fd\n.p 2\n0-0 011\n10- 000\n.e\n");
+    check_all_parts(second_cover_part, ".i 3\n.o 3\n.type fd\n.p 1\n0-0 011\n.e\n");
     check(second_report_part(listing, length, SIZE_MAX, out, 100) == 0, "nothing is left far past the end");
+    start("MC 3 1 1 0 1\nPT 0 110 001 1\nPT 1 101 100 0\nEN\n");
+    check_all_parts(second_cover_part, ".i 3\n.o 3\n.type fd\n.p 2\n0-0 011\n10- 000\n.e\n");
     start("MC 3 1 1 1\nPT 0 110 001 1\nPT 1 101 100 0\nEN\n");
     check(second_cover_part(listing, length, 0, out, 0) == -900000, "9 before 10, in parts");
     check(second_cover_part(listing, length, SIZE_MAX, out, 0) == -900000, "9 past the end");
@@ -698,6 +742,23 @@ static void test_papers(void)
     check(refusal.number == SECOND_FINE && machine.states == 64 && machine.width == 64, "P10, 64 states");
     refusal = second_read_head(bad, sizeof bad - 1, &machine);
     check(refusal.number == SECOND_LIMIT && refusal.line == 1, "P10, 65 states");
+}
+
+/* "An optional fifth number on `MC`, 1, keeps every row; 0 or absence drops them", whatever the head line before it said. */
+static void test_fifth(void)
+{
+    static const struct {
+        const char *head;
+        unsigned keep;
+    } case_of[] = {
+        {"MC 3 1 1 0\n", 0}, {"MC 3 1 1 0 1\n", 1}, {"MC 3 1 1 1\n", 0}, {"MC 3 1 1 1 1\n", 1}, {"MC 3 1 1 1 0\n", 0},
+    };
+    static struct second_machine machine;
+    for (unsigned at = 0; at < LENGTH_OF(case_of); at++) {
+        const char *head = case_of[at].head;
+        struct second_refusal refusal = second_read_head((const uint8_t *)head, strlen(head), &machine);
+        check(refusal.number == SECOND_FINE && machine.keep == case_of[at].keep, head);
+    }
 }
 
 /* ---- meeting, nearness, gains and looks: every case of up to five states ---- */
@@ -977,7 +1038,7 @@ static bool faces_are_right(const struct second_machine *machine, const struct s
     for (unsigned r = 0; r < drawn->pairs_groups; r++)
         if (second_met_by(drawn->list[r], code) == SECOND_NO_BIT)
             return true;
-    for (unsigned row = 0; row < machine->rows; row++) {
+    for (unsigned row = 0; row < machine->cover_rows; row++) {
         uint64_t group = machine->row[row].group;
         for (unsigned state = 0; state < machine->states; state++) {
             bool inside = true;
@@ -1009,20 +1070,72 @@ static bool fires(const struct second_machine *machine, unsigned row, unsigned v
     return (machine->row[row].group >> state & 1) && agrees(machine->row[row].input, machine->inputs, vector);
 }
 
+/* A cover's text, what its first lines say, and its rows' lines. */
+struct cover {
+    int64_t answer;
+    unsigned inputs;
+    unsigned outputs;
+    unsigned rows;
+    size_t line_length;
+    const uint8_t *lines;
+    uint8_t text[SECOND_TEXT];
+};
+
+static bool take_word(const uint8_t **at, const char *word)
+{
+    if (memcmp(*at, word, strlen(word)) != 0)
+        return false;
+    *at += strlen(word);
+    return true;
+}
+
+/* A line of a word and a number. */
+static bool take_count(const uint8_t **at, const char *word, unsigned *count)
+{
+    if (!take_word(at, word))
+        return false;
+    *count = 0;
+    for (; **at >= '0' && **at <= '9'; (*at)++)
+        *count = *count * 10 + (unsigned)(**at - '0');
+    return take_word(at, "\n");
+}
+
+/* The cover of a listing: its first lines, as many lines of rows as `.p` says, and `.e`. True for a refusal too. */
+static bool make_cover(const struct generated *made, struct cover *cover)
+{
+    const uint8_t *at = cover->text;
+    cover->answer = second_cover(made->bytes, made->length, cover->text, sizeof cover->text);
+    if (cover->answer < 0)
+        return true;
+    if (!take_count(&at, ".i ", &cover->inputs) || !take_count(&at, ".o ", &cover->outputs) ||
+        !take_word(&at, ".type fd\n") || !take_count(&at, ".p ", &cover->rows))
+        return false;
+    cover->line_length = cover->inputs + 1 + cover->outputs + 1;
+    cover->lines = at;
+    at += cover->rows * cover->line_length;
+    return take_word(&at, ".e\n") && at == cover->text + cover->answer;
+}
+
+/* What a cover that has every row says of an output of a row: the lines are matched by their position. */
+static uint8_t said_at(const struct second_machine *machine, const struct cover *all, unsigned row, unsigned place)
+{
+    return all->lines[(row + 1) * all->line_length - 1 - machine->outputs + place];
+}
+
 /* 02, request 02: "a listing's output now means 1 if a firing row says 1; free if none says 1 and some firing row says dash;
    otherwise 0". Where it is 1, a firing line of the cover says 1 and none a dash; where it is 0, none says 1 or a dash; where it
    is free, none says 1. The same rows fire in both, as faces_are_right shows. */
-static bool output_is_right(const struct second_machine *machine, const uint8_t *lines, size_t line_length, unsigned vector,
-                            unsigned state, unsigned place)
+static bool output_is_right(const struct second_machine *machine, const struct cover *all, unsigned vector, unsigned state,
+                            unsigned place)
 {
     bool asked_one = false;
     bool asked_dash = false;
     bool said_one = false;
     bool said_dash = false;
-    for (unsigned row = 0; row < machine->rows; row++) {
+    for (unsigned row = 0; row < machine->cover_rows; row++) {
         if (!fires(machine, row, vector, state))
             continue;
-        uint8_t said = lines[(row + 1) * line_length - 1 - machine->outputs + place];
+        uint8_t said = said_at(machine, all, row, place);
         asked_one = asked_one || machine->row[row].outputs[place] == '1';
         asked_dash = asked_dash || machine->row[row].outputs[place] == '-';
         said_one = said_one || said == '1';
@@ -1037,33 +1150,190 @@ static bool dash_is_right(const struct second_machine *machine, unsigned row, un
     bool beside = false;
     if (machine->row[row].outputs[place] != '-')
         return said == machine->row[row].outputs[place];
-    for (unsigned other = 0; other < machine->rows; other++)
+    for (unsigned other = 0; other < machine->cover_rows; other++)
         for (unsigned state = 0; state < machine->states && machine->row[other].outputs[place] == '1'; state++)
             for (unsigned vector = 0; vector >> machine->inputs == 0; vector++)
                 beside = beside || (fires(machine, row, vector, state) && fires(machine, other, vector, state));
     return said == (beside ? '0' : '-');
 }
 
-/* The cover of a listing that has one, in its text. */
-static bool cover_is_right(const struct generated *made, const struct second_machine *machine)
+/* The outputs of a cover that has every row. */
+static bool outputs_are_right(const struct second_machine *machine, const struct cover *all)
 {
-    static uint8_t text[SECOND_TEXT];
-    int64_t answer = second_cover(made->bytes, made->length, text, sizeof text);
-    if (answer < 0 || machine->rows == 0)
-        return true;
-    size_t line_length = 1;
-    while (text[(size_t)answer - 4 - line_length] != '\n')
-        line_length++;
-    const uint8_t *lines = text + answer - 3 - machine->rows * line_length;
     bool right = true;
     for (unsigned place = 0; place < machine->outputs; place++) {
-        for (unsigned row = 0; row < machine->rows; row++)
-            right = right && dash_is_right(machine, row, place, lines[(row + 1) * line_length - 1 - machine->outputs + place]);
+        for (unsigned row = 0; row < machine->cover_rows; row++)
+            right = right && dash_is_right(machine, row, place, said_at(machine, all, row, place));
         for (unsigned state = 0; state < machine->states; state++)
             for (unsigned vector = 0; vector >> machine->inputs == 0; vector++)
-                right = right && output_is_right(machine, lines, line_length, vector, state, place);
+                right = right && output_is_right(machine, all, vector, state, place);
     }
     return right;
+}
+
+/* 02, request 07: "A row whose next code and outputs are all zeros adds nothing to an array", by the row's line; "A row with an
+   output dash in the listing isn't dropped." */
+static bool adds_nothing(const struct second_machine *machine, const struct cover *all, unsigned row)
+{
+    const uint8_t *right_side = all->lines + row * all->line_length + all->inputs + 1;
+    for (unsigned place = 0; place < all->outputs; place++)
+        if (right_side[place] != '0')
+            return false;
+    for (unsigned place = 0; place < machine->outputs; place++)
+        if (machine->row[row].outputs[place] == '-')
+            return false;
+    return true;
+}
+
+/* What the cover leaves out of the one that has every row adds nothing; the rest is in order, as it stands there. */
+static bool left_out_is_right(const struct second_machine *machine, const struct cover *all, const struct cover *some)
+{
+    unsigned printed = 0;
+    for (unsigned row = 0; row < machine->cover_rows; row++) {
+        const uint8_t *line = all->lines + row * all->line_length;
+        if (adds_nothing(machine, all, row))
+            continue;
+        if (printed == some->rows || memcmp(some->lines + printed * some->line_length, line, all->line_length) != 0)
+            return false;
+        printed++;
+    }
+    return printed == some->rows && some->inputs == all->inputs && some->outputs == all->outputs;
+}
+
+/* The listing with these words behind the four numbers of its head line. */
+static void put_fifth(const struct generated *made, const char *fifth, struct generated *other)
+{
+    size_t four = 0;
+    size_t end = 0;
+    for (unsigned spaces = 0; made->bytes[end] != '\n'; end++) {
+        spaces += made->bytes[end] == ' ';
+        four = spaces < 5 ? end + 1 : four;
+    }
+    memcpy(other->bytes, made->bytes, four);
+    memcpy(other->bytes + four, fifth, strlen(fifth));
+    memcpy(other->bytes + four + strlen(fifth), made->bytes + end, made->length - end);
+    other->length = four + strlen(fifth) + made->length - end;
+}
+
+static unsigned covers_short; /* covers that left a row out */
+
+/* A listing that is read, with each fifth number: the cover that has every row, and those that leave rows out. */
+static bool covers_are_right(const struct generated *made, const struct second_machine *machine)
+{
+    static const char *const drops[] = {"", " 0"};
+    static struct generated other;
+    static struct cover all, some;
+    put_fifth(made, " 1", &other);
+    bool right = make_cover(&other, &all);
+    right = right && (all.answer < 0 || (all.rows == machine->cover_rows && outputs_are_right(machine, &all)));
+    for (unsigned at = 0; at < LENGTH_OF(drops); at++) {
+        put_fifth(made, drops[at], &other);
+        right = right && make_cover(&other, &some);
+        right = right && (all.answer < 0 ? some.answer == all.answer
+                                         : some.answer >= 0 && left_out_is_right(machine, &all, &some));
+        covers_short += right && all.answer >= 0 && some.rows < all.rows;
+    }
+    return right;
+}
+
+/* ---- Moore machines, by the words of the listing and of the cover ---- */
+
+/* What the `OU` line of a state says, in the listing's text; NULL if it has none. */
+static const uint8_t *outputs_of(const struct generated *made, unsigned state)
+{
+    const uint8_t *end = made->bytes + made->length;
+    for (const uint8_t *at = made->bytes; at < end; at++) {
+        unsigned number = 0;
+        const uint8_t *field = at + 3;
+        bool is_line = (at == made->bytes || at[-1] == '\n') && end - at > 6 && memcmp(at, "OU ", 3) == 0;
+        for (; is_line && *field != ' '; field++)
+            number = number * 10 + (unsigned)(*field - '0');
+        if (is_line && number == state)
+            return field + 1;
+    }
+    return NULL;
+}
+
+/* A line of a cover fires where its left side agrees with the vector and with the state's code. */
+static bool line_fires(const struct cover *cover, unsigned line, const struct second_code *code, unsigned vector, unsigned state)
+{
+    const uint8_t *left = cover->lines + line * cover->line_length;
+    const uint8_t *face = left + cover->inputs - code->bits;
+    bool fires = agrees(left, cover->inputs - code->bits, vector);
+    for (unsigned place = 0; place < code->bits; place++)
+        fires = fires && (face[place] == '-' || face[place] == (code->bit[place] >> state & 1 ? '1' : '0'));
+    return fires;
+}
+
+/* "in each state the outputs are those of its `OU` line whatever the input": of an output some firing line says 1 exactly where
+   that has 1, and some says dash exactly where it has a dash. */
+static bool says_outputs(const struct cover *cover, const struct second_code *code, unsigned vector, unsigned state,
+                         const uint8_t *outputs)
+{
+    bool right = outputs != NULL;
+    for (unsigned place = 0; right && place < cover->outputs - code->bits; place++) {
+        bool one = false;
+        bool dash = false;
+        for (unsigned line = 0; line < cover->rows; line++) {
+            uint8_t said = cover->lines[line * cover->line_length + cover->inputs + 1 + code->bits + place];
+            bool fires = line_fires(cover, line, code, vector, state);
+            one = one || (fires && said == '1');
+            dash = dash || (fires && said == '-');
+        }
+        right = one == (outputs[place] == '1') && dash == (outputs[place] == '-');
+    }
+    return right;
+}
+
+/* "Demand 2 counts the added rows as firing in their own state only", at every vector; they are the last lines of a cover that
+   has every row, in state order. */
+static bool added_fire_alone(const struct second_machine *machine, const struct cover *all, const struct second_code *code,
+                             unsigned vector, unsigned state)
+{
+    bool right = all->rows == machine->rows + machine->states;
+    for (unsigned added = 0; right && added < machine->states; added++)
+        right = line_fires(all, machine->rows + added, code, vector, state) == (added == state);
+    return right;
+}
+
+static unsigned moore_covers;
+
+/* A Moore machine's cover with each fifth number, at every vector and state. */
+static bool moore_is_right(const struct generated *made, const struct second_machine *machine, const struct second_code *code)
+{
+    static const char *const each[] = {"", " 0", " 1"};
+    static struct generated other;
+    static struct cover cover;
+    bool right = true;
+    for (unsigned at = 0; right && at < LENGTH_OF(each); at++) {
+        put_fifth(made, each[at], &other);
+        right = make_cover(&other, &cover);
+        if (cover.answer < 0)
+            continue;
+        moore_covers++;
+        for (unsigned state = 0; right && state < machine->states; state++)
+            for (unsigned vector = 0; right && vector >> machine->inputs == 0; vector++)
+                right = says_outputs(&cover, code, vector, state, outputs_of(made, state)) &&
+                        (at < 2 || added_fire_alone(machine, &cover, code, vector, state));
+    }
+    return right;
+}
+
+/* The fifth number is the cover's alone: the report is the same with each. */
+static bool reports_are_alike(const struct generated *made)
+{
+    static const char *const each[] = {"", " 0", " 1"};
+    static struct generated other;
+    static uint8_t text[SECOND_TEXT];
+    int64_t answer = second_report(made->bytes, made->length, out, sizeof out);
+    for (unsigned at = 0; at < LENGTH_OF(each); at++) {
+        put_fifth(made, each[at], &other);
+        if (second_report(other.bytes, other.length, text, sizeof text) != answer)
+            return false;
+        if (answer >= 0 && memcmp(text, out, (size_t)answer) != 0)
+            return false;
+    }
+    return true;
 }
 
 /* Both entries leave all bytes behind an answer and, when refused, all bytes; they refuse 10 exactly when short. */
@@ -1121,9 +1391,10 @@ static void test_by_chance(void)
     bool faces = true;
     bool room = true;
     bool parts = true;
-    bool outputs = true;
+    bool covers = true;
+    bool moore = true;
     for (unsigned number = 0; number < 1500; number++) {
-        generate_listing(7, number, number % 4 == 3, &made);
+        generate_listing(8, number, number % 4 == 3, &made);
         if (made.states <= 32 || number % 8 == 0) /* it encodes six times, which is dear above that */
             room = room && room_is_right(&made, second_report) && room_is_right(&made, second_cover);
         if (made.states <= 6)
@@ -1140,16 +1411,21 @@ static void test_by_chance(void)
         read++;
         check(refusal.number == SECOND_FINE || (refusal.number == SECOND_TOO_WIDE && machine.width == 0), "never 8");
         bits = bits && bits_are_right(&drawn, &code, machine.states);
-        if (machine.states <= 10 && machine.dichotomies <= 32)
+        if (machine.states <= 10)
             widths = widths && widths_agree(&drawn, &code, machine.states);
         faces = faces && faces_are_right(&machine, &drawn, &code);
         if (machine.states <= 8 && machine.inputs <= 6 && machine.rows <= 16)
-            outputs = outputs && cover_is_right(&made, &machine);
+            covers = covers && covers_are_right(&made, &machine) && reports_are_alike(&made);
+        if (machine.moore && machine.states <= 8 && machine.inputs <= 6)
+            moore = moore && moore_is_right(&made, &machine, &code);
     }
     check(bits, "every bit is as 01 says");
     check(widths, "a narrower code leads a wider one");
     check(faces, "a state's code lies in a face exactly when the state is in the group");
-    check(outputs, "a cover says of each output what the listing does, and keeps each dash that it may");
+    check(covers, "a cover says of each output what the listing does, keeps each dash that it may, leaves out what says nothing");
+    check(covers_short > 100, "enough covers that leave a row out");
+    check(moore, "at every vector and state a Moore machine's cover says what the state's OU line does");
+    check(moore_covers > 300, "enough Moore machines' covers");
     check(room, "room and the bytes behind an answer");
     check(parts, "the parts, one after the other, are the text");
     check(read > 500 && refusals > 200, "enough listings of both sorts");
@@ -1157,7 +1433,7 @@ static void test_by_chance(void)
 
 /* The same seed gives the same listings on every machine: a sum over the first 2,000 of seed 1. A change of the generator
    changes it, and is then written down here. */
-#define SUM_OF_SEED_1 0x5FF962ACDD685598u
+#define SUM_OF_SEED_1 0xCA15DA770834FC22u
 static void test_seed(void)
 {
     static struct generated made;
@@ -1190,6 +1466,7 @@ int main(int words, char **word)
     test_parts();
     test_requirements();
     test_papers();
+    test_fifth();
     test_every_small_case();
     test_near();
     test_trial();

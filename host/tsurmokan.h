@@ -9,7 +9,7 @@
 /* ---- a listing's report and cover ---- */
 
 /* No report is longer, and no cover: a buffer of this many bytes always has room. (A line of counts, 64 lines of codes, a line for each
- * of 10,016 requirements, and the end: report-length of crates/write_report/proofs/Length.antt.) A cover has at most 22,815. */
+ * of 10,016 requirements, and the end: report-length of crates/write_report/proofs/Length.antt.) A cover has at most 34,207. */
 #define TSURMOKAN_ROOM 124799
 
 /* No line of a report or of a cover is longer, its LF included: a buffer of this many bytes has room for some part of either. */
@@ -20,10 +20,13 @@
  *   out, out_length           where the report is written; the two buffers must not overlap, and neither pointer is null,
  *                             though a length may be 0
  * Answers the number of bytes written, at least 1; the bytes of `out` behind them are as they came. Or a refusal, below 0:
- * minus (number * 100000 + line), and then `out` is as it came. docs/REFUSALS.md has the numbers; 8 is unused. */
+ * minus (number * 100000 + line), and then `out` is as it came. docs/REFUSALS.md has the numbers: 1 to 10, of which 8 is unused,
+ * and 17. */
 extern int64_t tsurmokan_report(const uint8_t *listing, size_t listing_length, uint8_t *out, size_t out_length);
 
-/* The cover of a listing in those codes, in the Berkeley PLA form. As above; refused 9 where a pair or group requirement is unmet. */
+/* The cover of a listing in those codes, in the Berkeley PLA form; a Moore machine's has a row for each state behind those of the listing.
+ * Rows whose next code and outputs are all zeros are left out; a host that matches lines to rows by position writes a fifth number 1 on the
+ * listing's `MC` or `MO` line, and every row has its line. As above; refused 9 where a pair or group requirement is unmet. */
 extern int64_t tsurmokan_cover(const uint8_t *listing, size_t listing_length, uint8_t *out, size_t out_length);
 
 /* What each width buys: a line `WD width unmet covered` for each width from 1 to the last that adds a bit, where covered is 1 if a

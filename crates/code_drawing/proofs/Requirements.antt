@@ -6,13 +6,11 @@ use Prim.Native.Nat.{ℕ, zero, suc, _-_, _^_, _≤_, _<_, min}
 use native.Mathlib.Omega.{arith}
 use lib.Dec.{leb, ltb, eqb}
 use lib.ListN.{length, getD}
-use lib.Bits.{xor-zero-l}
-use lib.Pow.{pow-pos}
 use borrow.Author.Tests.{eqb-true, ltb-true, leb-true, ne-eqb}
 use Rattle.sets.specs.Sets.{has, only, size, total, everyone, statesFrom}
 use Rattle.sets.proofs.Every.{and-first, and-second}
 use Rattle.sets.proofs.Members.{has-lt, has-all, has-none}
-use Rattle.sets.proofs.Size.{size-total, size-flip, none-size}
+use Rattle.sets.proofs.Size.{size-total, size-only}
 use Rattle.rules.specs.Limits.{most-states}
 use Rattle.rules.specs.Listing.{noRow, noRequirement, rowsOf, dichotomiesOf}
 use Rattle.rules.specs.Requirements.{pairs, stood, groupAsks, groups, pairsAndGroups, requirements}
@@ -151,11 +149,6 @@ module _ (n : ℕ) (fits : n ≤ 64) where
       go false y e f = rw (with-none n fs g e) t
       go true true e f = rw (with-stood n fs g e f) t
       go true false e f = rw (with-new n fs g e f) (threes-append t (Threes.more Threes.none))
-
-size-only : (i : ℕ) → size (only i) ≡ 1
-size-only i =
-    let none : size 0 ≡ 0 = none-size 0 0 (pow-pos 0) (λ s _. has-none s) in
-    ap size (sym (xor-zero-l (2 ^ i))) ∙ omega (arith, none, has-none i, size-flip (suc i) 0 i (pow-pos (suc i)) (omega arith))
 
 -- no pair's family has a group for its members in common
 pairs-alone : (n m i k : ℕ) → Same n (pairWords m i k) []

@@ -1,27 +1,27 @@
 -- A fair listing has a sound twin: one with as many states, the same width and the same requirements.
 -- So what holds of the requirements of every sound listing holds of those of every fair one.
 use mathlib.Core.Path.{_≡_, refl, sym, ap, ap₂, _∙_}
-use mathlib.Core.Bool.{Bool, true, false, _&&_, _||_, not, cond}
+use mathlib.Core.Bool.{Bool, true, false, _&&_, _||_, not, cond, false≢true}
 use mathlib.Core.List.{List, [], _∷_, _++_, map}
 use Prim.Native.Nat.{ℕ, zero, suc, _^_, _≤_, _<_}
 use native.Mathlib.Omega.{arith}
 use lib.Dec.{leb, ltb, eqb}
-use lib.ListN.{length, getD, length-map, length-take}
+use lib.ListN.{length, getD, replicate, length-map, length-take, length-replicate}
 use lib.Pow.{pow-pos, pow-lt}
 use lib.Seq.{take-at}
 use borrow.Author.Tests.{leb-true, ne-eqb}
 use Rattle.sets.specs.Places.{padded}
 use Rattle.sets.proofs.Places.{map-at, padded-length, padded-inside}
 use Rattle.sets.specs.Sets.{size, statesFrom}
-use Rattle.rules.specs.Limits.{most-rows, most-dichotomies}
-use Rattle.rules.specs.Listing.{noRow, noRequirement, rowsOf, dichotomiesOf}
+use Rattle.rules.specs.Limits.{most-states, most-rows, most-dichotomies}
+use Rattle.rules.specs.Listing.{noPattern, noRow, noRequirement, rowsOf, dichotomiesOf}
 use Rattle.rules.specs.Requirements.{pairs, stood, groupAsks, groups, pairsAndGroups, requirements}
 use Rattle.rules.specs.declared.Row.{Row}
 use Rattle.rules.specs.declared.Requirement.{Requirement}
 use Rattle.rules.specs.declared.Listing.{Listing}
 use Rattle.rules.proofs.Asked.{newGroup, groups-step}
 use Rattle.rules.proofs.SoundLines.{SoundPattern, SoundRow}
-use Rattle.rules.proofs.Sound.{Sound}
+use Rattle.rules.proofs.Sound.{Sound, none-said}
 use Rattle.code_fair.proofs.Limits.{Fair}
 
 -- ---- the twin
@@ -38,11 +38,13 @@ twinRow r = record { input = record { ones = 0; dashes = 0 }; group = twinGroup 
 unfoldable pub twin : Listing → Listing
 unfolding twinRow
 twin t = record {
-  head = record { states = t .head .states; inputs = 1; outputs = 1; width = t .head .width };
+  head = record { states = t .head .states; inputs = 1; outputs = 1; width = t .head .width; keeps = false; moore = false };
   rows = length (rowsOf t);
   table = padded most-rows noRow (map twinRow (rowsOf t));
   dichotomies = length (dichotomiesOf t);
   asked = padded most-dichotomies noRequirement (dichotomiesOf t);
+  said = replicate most-states noPattern;
+  given = 0;
 }
 
 -- ---- its requirements are the same
@@ -147,7 +149,10 @@ module _ (t : Listing) (f : Fair t) where
         table = padded-length most-rows noRow (map twinRow rows) (omega arith);
         row = λ k h. rw (padded-inside most-rows noRow (map twinRow rows) noRow k (omega arith), map-at twinRow rows k noRow noRow h)
             (twin-row (getD rows k noRow) (f .group k h));
+        plain = λ m. absurd (false≢true m);
         few-dichotomies = few-ds;
         asked = padded-length most-dichotomies noRequirement ds few-ds;
         dichotomy = λ k h. rw (padded-inside most-dichotomies noRequirement ds noRequirement k h) (f .dichotomy k h);
+        said = length-replicate most-states noPattern;
+        state = λ s. rw (none-said most-states s) blank-pattern;
       }

@@ -39,6 +39,7 @@ number-few Refusal.TooWide = omega arith
 number-few Refusal.Unmet = omega arith
 number-few Refusal.NoRoom = omega arith
 number-few Refusal.BadCall = omega arith
+number-few Refusal.NoOutputs = omega arith
 
 -- by how many digits behind the first the line has
 pub refusal-length : (d : ℕ) (r : Refusal) (k : ℕ) → k < 10 ^ (d + 1) → length (printed (refuses r k)) ≤ d + 8

@@ -7,8 +7,8 @@ use native.Mathlib.Omega.{arith}
 use lib.Dec.{leb}
 use lib.ListN.{length, take, length-take}
 use lib.Seq.{take-all}
-use Rattle.rules.specs.Limits.{most-asked, most-bits, most-rows}
-use Rattle.rules.specs.Listing.{rowsOf}
+use Rattle.rules.specs.Limits.{most-asked, most-bits, most-lines}
+use Rattle.rules.specs.Listing.{allRows}
 use Rattle.rules.specs.Requirements.{requirements, pairsAndGroups}
 use Rattle.rules.specs.Code.{coding, unmetFrom, unmet}
 use Rattle.rules.specs.Report.{joinedLines}
@@ -18,7 +18,7 @@ use Rattle.rules.specs.Widths.{widths}
 use Rattle.rules.specs.declared.Listing.{Listing}
 use Rattle.rules.specs.declared.Encoding.{Encoding}
 use Rattle.rules.specs.declared.Refusal.the-variants.{Unmet}
-use Rattle.rules.proofs.Sound.{rows-length}
+use Rattle.rules.proofs.AllRows.{all-few}
 use Rattle.rules.proofs.Parts.{AllFit}
 use Rattle.rules.proofs.Good.{AllGood, requirements-good}
 use Rattle.rules.proofs.Most.{most-requirements}
@@ -92,8 +92,8 @@ module _ (t : Listing) (e : Encoding) (w : Whole t e) where
   unfolding textLines cover
   cover-text = ap joinedLines (cover-bounded t (take (e .width) (e .bits)) bounded)
 
-  short : length (rowsOf t) ≤ most-rows
-  short = omega (arith, rows-length t (w .sound), w .sound .few-rows)
+  short : length (allRows t) ≤ most-lines
+  short = all-few t (w .sound)
 
   thin : length (take (e .width) (e .bits)) ≤ most-bits
   thin = omega (arith, length-take (e .width) (e .bits), w .narrow)

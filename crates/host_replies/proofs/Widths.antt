@@ -39,9 +39,12 @@ sound-wide t s = record {
   few-rows = s .few-rows;
   table = s .table;
   row = λ k h. let r = s .row k h in record { input = r .input; group = r .group; some = r .some; next = r .next; one-next = r .one-next; outputs = r .outputs };
+  plain = s .plain;
   few-dichotomies = s .few-dichotomies;
   asked = s .asked;
   dichotomy = s .dichotomy;
+  said = s .said;
+  state = s .state;
 }
 
 pub wide-coded : (t : Listing) → coding (withWidth most-bits t) ≡ coded (build most-bits (t .head .states) (requirements t))

@@ -5,11 +5,11 @@ use Prim.Native.Nat.{ℕ, zero, suc, _+_, _-_, _%_, _^_, _≤_, _<_, min}
 use native.Mathlib.Omega.{arith}
 use lib.Bits.{bitAnd, bitOr, bitXor, and-comm, and-self, and-zero-l, and-zero-r, or-zero-l, xor-self, xor-zero-r}
 use lib.Dec.{leb}
-use lib.Pow.{pow-lt, pow-pos}
+use lib.Pow.{pow-lt}
 use borrow.Author.Tests.{le-leb}
 use Rattle.sets.specs.Sets.{has, only, size}
-use Rattle.sets.proofs.Members.{has-lt, has-none, has-only, has-other}
-use Rattle.sets.proofs.Size.{size-change, none-size}
+use Rattle.sets.proofs.Members.{has-lt, has-only, has-other}
+use Rattle.sets.proofs.Size.{size-zero, size-only}
 use Rattle.rules.specs.Requirements.{asks}
 use Rattle.rules.specs.Looks.{looksAt}
 use Rattle.rules.specs.declared.Requirement.{Requirement}
@@ -38,13 +38,6 @@ pair-joined i j =
     ap₂ asks
     (ap (bitXor (only i)) (and-zero-r (only i)) ∙ xor-zero-r (only i))
     (ap (λ (m : ℕ). bitOr m (only j)) (and-zero-r (only i)) ∙ or-zero-l (only j))
-
-size-zero : size 0 ≡ 0
-size-zero = none-size 0 0 (pow-pos 0) (λ s _. has-none s)
-
-pub size-only : (i : ℕ) → size (only i) ≡ 1
-size-only i =
-    omega (arith, size-change (suc i) (only i) 0 i (pow-lt (omega arith)) (pow-pos (suc i)) (omega arith) (λ t d. has-other i t d ∙ sym (has-none t)), has-only i, has-none i, size-zero)
 
 module _ (n i j : ℕ) (hi : i < n) (hj : j < n) (apart : j ≡ i → ⊥) where
   pub pair-good : Good n (pair i j)

@@ -1,9 +1,10 @@
-// `MC n i o w`: the head, read from the line's bytes without its LF.
+// `MC n i o w`, or the same behind `MO`, and behind it 0 or 1: the head, read from the line's bytes without its LF.
 ghost use mathlib.Core.Path.{_≡_};
 ghost use mathlib.Core.Bool.{_&&_};
 ghost use lib.Dec.{leb};
-ghost use Rattle.rules.specs.Text.{fieldAt, numeralOf};
-ghost use Rattle.rules.specs.Lines.{headNumbers, headNumerals, headLine};
+ghost use lib.ListN.{length};
+ghost use Rattle.rules.specs.Text.{fieldsOf, fieldAt, numeralOf};
+ghost use Rattle.rules.specs.Lines.{headNumbers, headNumerals, fifthOf, headLine};
 use read_pieces::field;
 use read_pieces::field_count;
 use rules::Head;
@@ -21,9 +22,9 @@ fn within(v: usize, most: usize) -> bool
     v <= most
 }
 
-// The four numbers of `MC`, each in its range or refused.
-fn head_numbers(n: usize, i: usize, o: usize, w: usize) -> HeadLine
-    ensures { λ r. ⌜ r ≡ headNumbers n i o w ⌝ }
+// The numbers of a head, each in its range or refused.
+fn head_numbers(moore: bool, n: usize, i: usize, o: usize, w: usize, k: usize) -> HeadLine
+    ensures { λ r. ⌜ r ≡ headNumbers moore n i o w k ⌝ }
 {
     if !within(n, rules::MOST_STATES) {
         return HeadLine::Refused(Refusal::Limit);
@@ -37,17 +38,29 @@ fn head_numbers(n: usize, i: usize, o: usize, w: usize) -> HeadLine
     if rules::MOST_BITS < w {
         return HeadLine::Refused(Refusal::Limit);
     }
+    if 1 < k {
+        return HeadLine::Refused(Refusal::Limit);
+    }
     HeadLine::Read(Head {
         states: n,
         inputs: i,
         outputs: o,
         width: w,
+        keeps: k == 1,
+        moore: moore,
     })
 }
 
-// The four fields of `MC` as numbers.
-fn head_numerals(n: Numeral, i: Numeral, o: Numeral, w: Numeral) -> HeadLine
-    ensures { λ r. ⌜ r ≡ headNumerals n i o w ⌝ }
+// The fields of a head as numbers.
+fn head_numerals(
+    moore: bool,
+    n: Numeral,
+    i: Numeral,
+    o: Numeral,
+    w: Numeral,
+    k: Numeral,
+) -> HeadLine
+    ensures { λ r. ⌜ r ≡ headNumerals moore n i o w k ⌝ }
 {
     let Numeral::Is(states) = n else {
         return HeadLine::Refused(Refusal::BadLine);
@@ -61,7 +74,10 @@ fn head_numerals(n: Numeral, i: Numeral, o: Numeral, w: Numeral) -> HeadLine
     let Numeral::Is(width) = w else {
         return HeadLine::Refused(Refusal::BadLine);
     };
-    head_numbers(states, inputs, outputs, width)
+    let Numeral::Is(keeps) = k else {
+        return HeadLine::Refused(Refusal::BadLine);
+    };
+    head_numbers(moore, states, inputs, outputs, width, keeps)
 }
 
 // What field k of a line says as a number.
@@ -71,17 +87,34 @@ fn number_at(l: &[u8], k: usize) -> Numeral
     read_fields::numeral_of(field(l, k))
 }
 
-// What an `MC` line says.
-pub fn head_line(l: &[u8]) -> HeadLine
-    ensures { λ r. ⌜ r ≡ headLine (now (l .entry)) ⌝ }
+// The fifth number of a line that has `count` fields: 0 where there are four.
+fn fifth_of(l: &[u8], count: usize) -> Numeral
+    requires { ⌜ count ≡ length (fieldsOf (now l)) ⌝ }
+    ensures { λ r. ⌜ r ≡ fifthOf (now (l .entry)) ⌝ }
 {
-    if field_count(l) != 5 {
+    if count == 5 {
+        return Numeral::Is(0);
+    }
+    number_at(l, 5)
+}
+
+// What an `MC` line says, or an `MO` line, which `moore` tells.
+pub fn head_line(moore: bool, l: &[u8]) -> HeadLine
+    ensures { λ r. ⌜ r ≡ headLine moore (now (l .entry)) ⌝ }
+{
+    let count = field_count(l);
+    if count < 5 {
+        return HeadLine::Refused(Refusal::BadLine);
+    }
+    if 6 < count {
         return HeadLine::Refused(Refusal::BadLine);
     }
     head_numerals(
+        moore,
         number_at(l, 1),
         number_at(l, 2),
         number_at(l, 3),
         number_at(l, 4),
+        fifth_of(l, count),
     )
 }

@@ -1,3 +1,4 @@
-// The readers of a row and of a dichotomy. Each takes the line's bytes without its LF.
+// The readers of a row, of a dichotomy and of a state's outputs. Each takes the line's bytes without its LF.
 pub mod dichotomy;
+pub mod outputs;
 pub mod row;

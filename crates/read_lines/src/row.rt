@@ -1,10 +1,10 @@
-// `PT input group next outputs`: a row.
+// `PT input group next outputs`, and in a Moore machine `PT input group next`: a row.
 ghost use mathlib.Core.Path.{_≡_};
 ghost use Rattle.rules.specs.Limits.{most-states};
 ghost use Rattle.rules.specs.Text.{nought, one};
 ghost use Rattle.read_fields.specs.Fields.{placesIn};
 ghost use Rattle.rules.specs.Lines.{rowChecked, rowLine};
-ghost use Rattle.read_lines.specs.Rows.{rowRead, rowRest};
+ghost use Rattle.read_lines.specs.Rows.{rowRead, rowEnd, rowRest};
 use read_fields::PatternField;
 use read_fields::Places;
 use read_pieces::behind;
@@ -12,6 +12,7 @@ use read_pieces::cut;
 use read_pieces::first_of;
 use read_pieces::stands_at;
 use rules::Head;
+use rules::Pattern;
 use rules::Refusal;
 use rules::Row;
 use rules::RowLine;
@@ -39,7 +40,7 @@ fn states_in(f: &[u8], k: usize) -> Places
     read_fields::places_in(f, rules::MOST_STATES, k, b'0', b'1', b'1')
 }
 
-// The row of four fields.
+// The row of the three fields that every row has, and of outputs that are read already.
 fn row_read(
     h: Head,
     count: usize,
@@ -47,9 +48,9 @@ fn row_read(
     input: &[u8],
     group: &[u8],
     next: &[u8],
-    outputs: &[u8],
+    outputs: Pattern,
 ) -> RowLine
-    ensures { λ r. ⌜ r ≡ rowRead h count line (now (input .entry)) (now (group .entry)) (now (next .entry)) (now (outputs .entry)) ⌝ }
+    ensures { λ r. ⌜ r ≡ rowRead h count line (now (input .entry)) (now (group .entry)) (now (next .entry)) outputs ⌝ }
 {
     let PatternField::Read(asked) = read_fields::pattern_in(input, rules::MOST_INPUTS, h.inputs)
     else {
@@ -61,20 +62,33 @@ fn row_read(
     let Places::Read(named, _) = states_in(next, h.states) else {
         return RowLine::Refused(Refusal::BadLine);
     };
-    let PatternField::Read(given) = read_fields::pattern_in(outputs, rules::MOST_OUTPUTS, h.outputs)
-    else {
-        return RowLine::Refused(Refusal::BadLine);
-    };
     row_checked(
         count,
         Row {
             input: asked,
             group: states,
             next: named,
-            outputs: given,
+            outputs: outputs,
             line: line,
         },
     )
+}
+
+// What stands behind the group and its space, where the row has outputs: the next state has a space behind it.
+fn row_end(h: Head, count: usize, line: usize, input: &[u8], group: &[u8], v: &[u8]) -> RowLine
+    ensures { λ r. ⌜ r ≡ rowEnd h count line (now (input .entry)) (now (group .entry)) (now (v .entry)) ⌝ }
+{
+    if !stands_at(v, h.states, b' ') {
+        return RowLine::Refused(Refusal::BadLine);
+    }
+    let PatternField::Read(outputs) = read_fields::pattern_in(
+        behind(v, h.states),
+        rules::MOST_OUTPUTS,
+        h.outputs,
+    ) else {
+        return RowLine::Refused(Refusal::BadLine);
+    };
+    row_read(h, count, line, input, group, first_of(v, h.states), outputs)
 }
 
 // What stands behind the mark and its space: each field but the last has a space behind it, at the place that the head gives it.
@@ -89,13 +103,13 @@ fn row_rest(h: Head, count: usize, line: usize, t: &[u8]) -> RowLine
         return RowLine::Refused(Refusal::BadLine);
     }
     let v = behind(u, h.states);
-    if !stands_at(v, h.states, b' ') {
-        return RowLine::Refused(Refusal::BadLine);
-    }
     let input = first_of(t, h.inputs);
     let group = first_of(u, h.states);
-    let next = first_of(v, h.states);
-    row_read(h, count, line, input, group, next, behind(v, h.states))
+    if h.moore {
+        let none = Pattern { ones: 0, dashes: 0 };
+        return row_read(h, count, line, input, group, v, none);
+    }
+    row_end(h, count, line, input, group, v)
 }
 
 // What a `PT` line says, as line number `line` and behind `count` rows.

@@ -30,7 +30,7 @@ read-cons k t l (m ∷ ms) h = go (lineStep k t l)
     go (stops r) = refl
 
 -- the line from `at` to r, which says x
-pub read-line : (k : ℕ) (t : Listing) (s : List ℕ) (at r : ℕ) {x : Said} → Cut lf s at r → r < length s → x ≡ lineSays k (t .head) (t .rows) (t .dichotomies) (part s at r)
+pub read-line : (k : ℕ) (t : Listing) (s : List ℕ) (at r : ℕ) {x : Said} → Cut lf s at r → r < length s → x ≡ lineSays k (t .head) (t .rows) (t .dichotomies) (t .given) (part s at r)
     → readLines k t (linesOf (drop at s)) ≡ behind (stepOf x t) k t (linesOf (drop (r + 1) s))
 read-line k t s at r {x} c h e =
     ap (readLines k t) (c .more h)
@@ -38,7 +38,7 @@ read-line k t s at r {x} c h e =
     ∙ ap (λ (y : Step). behind y k t (linesOf (drop (r + 1) s))) (sym (says-step k t (part s at r)) ∙ ap (λ (y : Said). stepOf y t) (sym e))
 
 -- what stands behind the last LF
-pub read-last : (k : ℕ) (t : Listing) (s : List ℕ) (at r : ℕ) → Cut lf s at r → length s ≤ r → readLines k t (linesOf (drop at s)) ≡ unended k (part s at (length s))
+pub read-last : (k : ℕ) (t : Listing) (s : List ℕ) (at r : ℕ) → Cut lf s at r → length s ≤ r → readLines k t (linesOf (drop at s)) ≡ unended k (t .head) (t .given) (part s at (length s))
 unfolding readLines
 read-last k t s at r c h =
     let z : r ≡ length s = omega arith in

@@ -1,20 +1,21 @@
 -- What a line does to a listing, said without the listing: the reader keeps its one listing where it lies, and adds to it there.
-use mathlib.Core.Bool.{cond}
+use mathlib.Core.Bool.{true, false, cond}
 use mathlib.Core.List.{List}
 use Prim.Native.Nat.{ℕ}
-use lib.Dec.{eqb}
 use Rattle.rules.specs.Text.{markOf, markIs}
-use Rattle.rules.specs.Lines.{headLine, rowLine, dichotomyLine, endLine}
-use Rattle.rules.specs.Listing.{withHead, withRow, withDichotomy, Step, goes, ends, stops}
+use Rattle.rules.specs.Lines.{headLine, rowLine, dichotomyLine, outputsLine, endLine}
+use Rattle.rules.specs.Listing.{withHead, withRow, withDichotomy, withOutputs, placed, Step, goes, ends, stops, complete}
 use Rattle.rules.specs.declared.Head.{Head}
 use Rattle.rules.specs.declared.Listing.{Listing}
 use Rattle.rules.specs.declared.Mark.{Mark}
-use Rattle.rules.specs.declared.Mark.the-variants.{Mc, Pt, Di, En, Unknown}
+use Rattle.rules.specs.declared.Mark.the-variants.{Mc, Mo, Pt, Di, Ou, En, Unknown}
 use Rattle.rules.specs.declared.Refusal.{Refusal}
-use Rattle.rules.specs.declared.Refusal.the-variants.{BadLine, Place}
+use Rattle.rules.specs.declared.Refusal.the-variants.{BadLine, Place, NoOutputs}
+use Rattle.rules.specs.declared.Verdict.{Verdict}
 use Rattle.rules.specs.declared.HeadLine.{HeadLine}
 use Rattle.rules.specs.declared.RowLine.{RowLine}
 use Rattle.rules.specs.declared.DichotomyLine.{DichotomyLine}
+use Rattle.rules.specs.declared.OutputsLine.{OutputsLine}
 use Rattle.rules.specs.declared.EndLine.{EndLine}
 use Rattle.read_listing.specs.declared.says.Said.{Said}
 
@@ -23,6 +24,7 @@ abbrev pub stepOf : Said → Listing → Step
 stepOf (Said.Head h) t = goes (withHead h t)
 stepOf (Said.Row r) t = goes (withRow r t)
 stepOf (Said.Dichotomy d) t = goes (withDichotomy d t)
+stepOf (Said.Outputs s p) t = goes (withOutputs (s .0) p t)
 stepOf Said.End t = ends
 stepOf (Said.Refused r) t = stops r
 
@@ -38,6 +40,10 @@ rowReason (RowLine.Refused r) = r
 abbrev pub dichotomyReason : DichotomyLine → Refusal
 dichotomyReason (DichotomyLine.Read d) = BadLine
 dichotomyReason (DichotomyLine.Refused r) = r
+
+abbrev pub outputsReason : OutputsLine → Refusal
+outputsReason (OutputsLine.Read s p) = BadLine
+outputsReason (OutputsLine.Refused r) = r
 
 abbrev pub endReason : EndLine → Refusal
 endReason EndLine.Read = BadLine
@@ -55,25 +61,29 @@ abbrev pub dichotomySays : DichotomyLine → Said
 dichotomySays (DichotomyLine.Read d) = Said.Dichotomy d
 dichotomySays (DichotomyLine.Refused r) = Said.Refused r
 
+abbrev pub outputsSays : OutputsLine → Said
+outputsSays (OutputsLine.Read s p) = Said.Outputs s p
+outputsSays (OutputsLine.Refused r) = Said.Refused r
+
 abbrev pub endSays : EndLine → Said
 endSays EndLine.Read = Said.End
 endSays (EndLine.Refused r) = Said.Refused r
 
--- line 1
-unfoldable pub firstSays : Mark → List ℕ → Said
-firstSays Mc l = headSays (headLine l)
-firstSays Pt l = Said.Refused Place
-firstSays Di l = Said.Refused Place
-firstSays En l = Said.Refused Place
-firstSays Unknown l = Said.Refused Place
+-- line k in its place, under the head h and behind so many rows and dichotomies
+unfoldable pub placedSays : Mark → ℕ → Head → ℕ → ℕ → List ℕ → Said
+placedSays Mc k h rows dichotomies l = headSays (headLine false l)
+placedSays Mo k h rows dichotomies l = headSays (headLine true l)
+placedSays Pt k h rows dichotomies l = rowSays (rowLine h rows k l)
+placedSays Di k h rows dichotomies l = dichotomySays (dichotomyLine h dichotomies l)
+placedSays Ou k h rows dichotomies l = outputsSays (outputsLine h l)
+placedSays En k h rows dichotomies l = endSays (endLine l)
+placedSays Unknown k h rows dichotomies l = Said.Refused BadLine
 
--- line k, from 2 on, under the head h and behind so many rows and dichotomies
-unfoldable pub laterSays : Mark → ℕ → Head → ℕ → ℕ → List ℕ → Said
-laterSays Mc k h rows dichotomies l = Said.Refused Place
-laterSays Pt k h rows dichotomies l = rowSays (rowLine h rows k l)
-laterSays Di k h rows dichotomies l = dichotomySays (dichotomyLine h dichotomies l)
-laterSays En k h rows dichotomies l = endSays (endLine l)
-laterSays Unknown k h rows dichotomies l = Said.Refused BadLine
+-- and line k, behind the `OU` lines of the states given too
+unfoldable pub lineSays : ℕ → Head → ℕ → ℕ → ℕ → List ℕ → Said
+lineSays k h rows dichotomies given l = cond (placed (markIs (markOf l)) k h given l) (placedSays (markIs (markOf l)) k h rows dichotomies l) (Said.Refused Place)
 
-unfoldable pub lineSays : ℕ → Head → ℕ → ℕ → List ℕ → Said
-lineSays k h rows dichotomies l = cond (eqb k 1) (firstSays (markIs (markOf l)) l) (laterSays (markIs (markOf l)) k h rows dichotomies l)
+-- after `EN`, which stood on line k: a state of a Moore machine without outputs is 17
+unfoldable pub outputsVerdict : ℕ → Head → ℕ → Verdict
+unfolding complete
+outputsVerdict k h given = cond (complete h given) Verdict.Accepted (Verdict.Refused NoOutputs k)

@@ -2,13 +2,12 @@
 mod says;
 
 ghost use mathlib.Core.Path.{_≡_};
-ghost use mathlib.Core.Bool.{cond};
+ghost use Prim.Native.Nat.{_<_};
 ghost use Rattle.rules.specs.Text.{linesOf};
-ghost use Rattle.rules.specs.Listing.{blank, accepted, refused, nothing, isMc, placed, unended, readLines, checked, reading};
-ghost use Rattle.rules.specs.declared.Refusal.the-variants.{Place};
+ghost use Rattle.rules.specs.Listing.{blank, refused, complete, ended, unended, readLines, checked, reading, orElse};
+ghost use Rattle.read_listing.specs.Says.{outputsVerdict};
 use rules::Head;
 use rules::Listing;
-use rules::Mark;
 use rules::Pattern;
 use rules::Reading;
 use rules::Refusal;
@@ -26,6 +25,8 @@ fn blank_listing() -> Listing
         inputs: 0,
         outputs: 0,
         width: 0,
+        keeps: false,
+        moore: false,
     };
     let none = Pattern { ones: 0, dashes: 0 };
     let row = Row {
@@ -41,12 +42,15 @@ fn blank_listing() -> Listing
     };
     let rows = [row; rules::MOST_ROWS];
     let dichotomies = [asked; rules::MOST_DICHOTOMIES];
+    let said = [none; rules::MOST_STATES];
     Listing {
         head: head,
         rows: 0,
         table: rows,
         dichotomies: 0,
         asked: dichotomies,
+        said: said,
+        given: 0,
     }
 }
 
@@ -59,14 +63,55 @@ fn refuse(r: Refusal, line: usize) -> Reading
     }
 }
 
-// After `EN`: bytes behind it are 3, on the line after its own; else the listing, unless two of its rows clash.
-fn finish(next: usize, t: Listing, rest: &[u8]) -> Reading
-    ensures { λ r. ⌜ r ≡ checked (cond (nothing (linesOf (now (rest .entry)))) (accepted t) (refused Place next)) ⌝ }
+// Whether each state of a Moore machine is one of those given outputs.
+fn is_complete(h: Head, given: u64) -> bool
+    ensures { λ r. ⌜ r ≡ complete h given ⌝ }
+{
+    if !h.moore {
+        return true;
+    }
+    let mut s: usize = 0;
+    while s < h.states {
+        if !sets::member(given, s) {
+            return false;
+        }
+        s += 1;
+    }
+    true
+}
+
+// After `EN`, which stood on line k: a state of a Moore machine without outputs is 17.
+fn outputs_verdict(k: usize, h: Head, given: u64) -> Verdict
+    ensures { λ r. ⌜ r ≡ outputsVerdict k h given ⌝ }
+{
+    if is_complete(h, given) {
+        return Verdict::Accepted;
+    }
+    Verdict::Refused(Refusal::NoOutputs, k)
+}
+
+// The first of two verdicts that refuses.
+fn or_else(first: Verdict, second: Verdict) -> Verdict
+    ensures { λ r. ⌜ r ≡ orElse first second ⌝ }
+{
+    match first {
+        Verdict::Accepted => second,
+        Verdict::Refused(r, line) => Verdict::Refused(r, line),
+    }
+}
+
+// After `EN`, which stood on line k: bytes behind it are 3, on the line after its own; then a state without outputs is 17; else the listing, unless two of its
+// rows clash.
+fn finish(k: usize, t: Listing, rest: &[u8]) -> Reading
+    requires { ⌜ k < 18446744073709551615 ⌝ }
+    ensures { λ r. ⌜ r ≡ checked (ended k t (linesOf (now (rest .entry)))) ⌝ }
 {
     if rest.len() != 0 {
-        return refuse(Refusal::Place, next);
+        return refuse(Refusal::Place, k + 1);
     }
-    let verdict = read_conflict::first_clash(t);
+    let missing = outputs_verdict(k, t.head, t.given);
+    let clash = read_conflict::first_clash(t);
+    let verdict = or_else(missing, clash);
     match verdict {
         Verdict::Refused(r, line) => refuse(r, line),
         Verdict::Accepted => Reading {
@@ -76,36 +121,14 @@ fn finish(next: usize, t: Listing, rest: &[u8]) -> Reading
     }
 }
 
-fn is_mc(mark: Mark) -> bool
-    ensures { λ r. ⌜ r ≡ isMc mark ⌝ }
-{
-    match mark {
-        Mark::Mc => true,
-        Mark::Pt => false,
-        Mark::Di => false,
-        Mark::En => false,
-        Mark::Unknown => false,
-    }
-}
-
-// Whether a line with this mark is in its place as line k.
-fn in_place(k: usize, mark: Mark) -> bool
-    ensures { λ r. ⌜ r ≡ placed k mark ⌝ }
-{
-    if k == 1 {
-        return is_mc(mark);
-    }
-    !is_mc(mark)
-}
-
-// What stands behind the last LF, as line k.
-fn break_off(k: usize, l: &[u8]) -> Reading
-    ensures { λ r. ⌜ r ≡ unended k (now (l .entry)) ⌝ }
+// What stands behind the last LF, as line k, under the head h and behind `OU` lines of the states given.
+fn break_off(k: usize, h: Head, given: u64, l: &[u8]) -> Reading
+    ensures { λ r. ⌜ r ≡ unended k h given (now (l .entry)) ⌝ }
 {
     if l.len() == 0 {
         return refuse(Refusal::Place, k);
     }
-    if in_place(k, read_marks::mark_of(l)) {
+    if says::in_place(read_marks::mark_of(l), k, h, given, l) {
         return refuse(Refusal::BadLine, k);
     }
     refuse(Refusal::Place, k)
@@ -120,11 +143,11 @@ fn read_lines(s: &[u8]) -> Reading
     let mut at: usize = 0;
     let mut end = read_pieces::cut(s, 0, b'\n');
     while end < s.len() {
-        let said = says::line_said(k, t.head, t.rows, t.dichotomies, &s[at..end]);
+        let said = says::line_said(k, t.head, t.rows, t.dichotomies, t.given, &s[at..end]);
         at = end + 1;
         match said {
             Said::Refused(r) => return refuse(r, k),
-            Said::End => return finish(k + 1, t, &s[at..]),
+            Said::End => return finish(k, t, &s[at..]),
             Said::Head(h) => t.head = h,
             Said::Row(r) => {
                 let n = t.rows;
@@ -136,11 +159,16 @@ fn read_lines(s: &[u8]) -> Reading
                 t.asked[n] = d;
                 t.dichotomies = n + 1;
             }
+            Said::Outputs(who, p) => {
+                let n = who.0;
+                t.said[n] = p;
+                t.given = t.given | (1 << n);
+            }
         }
         k += 1;
         end = read_pieces::cut(s, at, b'\n');
     }
-    break_off(k, &s[at..])
+    break_off(k, t.head, t.given, &s[at..])
 }
 
 // Any bytes at all: the listing, or the refusal and its line.

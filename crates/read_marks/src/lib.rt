@@ -1,4 +1,4 @@
-// The mark that leads a line, its whole first field compared with four fixed strings, and the end line, which is its mark alone. A line comes without its LF.
+// The mark that leads a line, its whole first field compared with six fixed strings, and the end line, which is its mark alone. A line comes without its LF.
 ghost use mathlib.Core.Path.{_≡_};
 ghost use Rattle.rules.specs.Text.{same, markOf, markIs};
 ghost use Rattle.rules.specs.Lines.{endLine};
@@ -29,11 +29,17 @@ fn mark_in(f: &[u8]) -> Mark
     if is_mark(f, b"MC") {
         return Mark::Mc;
     }
+    if is_mark(f, b"MO") {
+        return Mark::Mo;
+    }
     if is_mark(f, b"PT") {
         return Mark::Pt;
     }
     if is_mark(f, b"DI") {
         return Mark::Di;
+    }
+    if is_mark(f, b"OU") {
+        return Mark::Ou;
     }
     if is_mark(f, b"EN") {
         return Mark::En;

@@ -1,9 +1,9 @@
--- The cover that is written agrees with the listing: what its lines say at each input vector and state, and what the listing means there.
+-- The cover that is written agrees with the listing: what its lines say at each input vector and state, rows left out or not, and what the listing means there.
 use mathlib.Core.Path.{_≡_, refl, sym, ap, ap₂, _∙_}
 use mathlib.Core.Logic.{_⊎_, inl, inr, ⊎-elim}
-use mathlib.Core.Bool.{Bool, true, false, _&&_, _||_, not, cond, or-false}
+use mathlib.Core.Bool.{Bool, true, false, _&&_, _||_, not, cond, or-false, and-false}
 use mathlib.Core.List.{List, [], _∷_, _++_, map}
-use Prim.Native.Nat.{ℕ, zero, suc, _+_, _≤_, _<_}
+use Prim.Native.Nat.{ℕ, zero, suc, _+_, _-_, _≤_, _<_}
 use native.Mathlib.Nat.{zero-add}
 use native.Mathlib.Decide.{ℕ-discrete}
 use native.Mathlib.Omega.{arith}
@@ -17,21 +17,22 @@ use Rattle.sets.proofs.Every.{and-first, and-second, and-both, at-every}
 use Rattle.sets.proofs.Places.{map-at}
 use Rattle.rules.specs.Limits.{most-inputs}
 use Rattle.rules.specs.Text.{bytes, digit, dot, dash, nought, one, fieldAt, split, decimal}
-use Rattle.rules.specs.Listing.{noRow, rowsOf, some, meets, conflict}
+use Rattle.rules.specs.Listing.{noRow, allRows, some, meets}
 use Rattle.rules.specs.Code.{codeOf}
 use Rattle.rules.specs.Report.{digits}
-use Rattle.rules.specs.Cover.{nextCode, saysOne, saysDash, sharesOne, outputAt, coverRow, fires, takes, vector, lineFires}
+use Rattle.rules.specs.Cover.{nextCode, saysOne, saysDash, sharesOne, outputAt, coverRow, isLeftOut, printedRows, keepingAll, fires, takes, vector, lineFires}
 use Rattle.rules.specs.Meaning.{Meaning, on, free, off, outputMeans, namedBy, nextMeans, bitMeans, coverSays, placeAgrees, agreesAt}
 use Rattle.rules.specs.declared.Head.{Head}
 use Rattle.rules.specs.declared.Row.{Row}
 use Rattle.rules.specs.declared.Listing.{Listing}
-use Rattle.rules.specs.declared.Verdict.{Verdict}
-use Rattle.rules.proofs.Some.{some-at, at-some, none-some, some-none, same-some, some-like, some-append}
+use Rattle.rules.proofs.Some.{some-at, at-some, none-some, some-none, some-like, some-append}
 use Rattle.rules.proofs.Fires.{outputSide, cover-fields}
-use Rattle.rules.proofs.SoundLines.{SoundRow}
-use Rattle.rules.proofs.Sound.{Sound, rows-length, row-of}
+use Rattle.rules.proofs.SoundLines.{FitRow}
+use Rattle.rules.proofs.Sound.{Sound}
+use Rattle.rules.proofs.AllRows.{all-fit, Apart}
+use Rattle.rules.proofs.Printed.{printed-some, silent-bit, silent-output}
 use Rattle.rules.proofs.CoverLines.{coverBodies}
-use Rattle.rules.proofs.Sharing.{fire-together, rows-apart, one-next}
+use Rattle.rules.proofs.Sharing.{fire-together, one-next}
 
 -- ---- what a row's line says of an output
 
@@ -44,7 +45,7 @@ one-said rs r j = go (saysOne j r) (saysDash j r && not (sharesOne rs r j))
     go false true = refl
     go false false = refl
 
-dash-said : (rs : List Row) (r : Row) (j : ℕ) → eqb (outputAt rs r j) dash ≡ (not (saysOne j r) && (saysDash j r && not (sharesOne rs r j)))
+pub dash-said : (rs : List Row) (r : Row) (j : ℕ) → eqb (outputAt rs r j) dash ≡ (not (saysOne j r) && (saysDash j r && not (sharesOne rs r j)))
 unfolding outputAt
 dash-said rs r j = go (saysOne j r) (saysDash j r && not (sharesOne rs r j))
   where
@@ -55,7 +56,7 @@ dash-said rs r j = go (saysOne j r) (saysDash j r && not (sharesOne rs r j))
 
 -- ---- what the rows say that fire at an input vector and a state
 
-module _ (h : Head) (rs : List Row) (few : h .inputs ≤ most-inputs) (sound : (k : ℕ) → k < length rs → SoundRow h (getD rs k noRow)) (x s : ℕ) where
+module _ (h : Head) (rs : List Row) (few : h .inputs ≤ most-inputs) (sound : (k : ℕ) → k < length rs → FitRow h (getD rs k noRow)) (x s : ℕ) where
   abbrev fired : (Row → Bool) → Bool
   fired p = some (λ r. fires h r x s && p r) rs
 
@@ -71,14 +72,14 @@ module _ (h : Head) (rs : List Row) (few : h .inputs ≤ most-inputs) (sound : (
       sayer : (k : ℕ) × (k < length rs) × ((fires h (getD rs k noRow) x s && saysOne j (getD rs k noRow)) ≡ true)
       sayer = some-at noRow (λ r. fires h r x s && saysOne j r) rs e
 
-      shares : (r : Row) → SoundRow h r → fires h r x s ≡ true → sharesOne rs r j ≡ true
+      shares : (r : Row) → FitRow h r → fires h r x s ≡ true → sharesOne rs r j ≡ true
       shares r sr f =
           let q = getD rs (sayer .0) noRow in
           at-some noRow (λ q. meets r q && saysOne j q) rs (sayer .0) (sayer .1)
           (and-both (meets r q) (saysOne j q) (fire-together h few r q sr (sound (sayer .0) (sayer .1)) x s f (and-first (fires h q x s) (saysOne j q) (sayer .2)))
           (and-second (fires h q x s) (saysOne j q) (sayer .2)))
 
-      each : (r : Row) → SoundRow h r → (b : Bool) → fires h r x s ≡ b → (b && eqb (outputAt rs r j) dash) ≡ false
+      each : (r : Row) → FitRow h r → (b : Bool) → fires h r x s ≡ b → (b && eqb (outputAt rs r j) dash) ≡ false
       each r sr false f = refl
       each r sr true f = dash-said rs r j ∙ ap (λ (t : Bool). not (saysOne j r) && (saysDash j r && not t)) (shares r sr f) ∙ neither (saysOne j r) (saysDash j r)
         where
@@ -121,12 +122,25 @@ module _ (h : Head) (bits : List ℕ) (rs : List Row) (r : Row) where
       ∙ each-state (outputAt rs r) 0 (h .outputs) j l
       ∙ ap (outputAt rs r) (zero-add j)
 
-  -- a bit of that code
-  bit-place : (k : ℕ) → k < length bits → getD (outputSide h bits rs r) k 0 ≡ nought + digit (not (eqb (bitAnd (getD bits k 0) (r .next)) 0))
-  bit-place k l =
+  -- a digit of that code
+  code-place : (k : ℕ) → k < length bits → getD (outputSide h bits rs r) k 0 ≡ nought + getD (nextCode bits (r .next)) k 0
+  code-place k l =
       List·getD-append (digits (nextCode bits (r .next))) (map (outputAt rs r) (statesFrom 0 (h .outputs))) 0 k (omega (arith, code-long))
       ∙ map-at (λ d. nought + d) (nextCode bits (r .next)) k 0 0 (omega (arith, length-map bits (λ b. digit (not (eqb (bitAnd b (r .next)) 0)))))
-      ∙ ap (λ (d : ℕ). nought + d) (map-at (λ b. digit (not (eqb (bitAnd b (r .next)) 0))) bits k 0 0 l)
+
+  bit-place : (k : ℕ) → k < length bits → getD (outputSide h bits rs r) k 0 ≡ nought + digit (not (eqb (bitAnd (getD bits k 0) (r .next)) 0))
+  bit-place k l = code-place k l ∙ ap (λ (d : ℕ). nought + d) (map-at (λ b. digit (not (eqb (bitAnd b (r .next)) 0))) bits k 0 0 l)
+
+  -- a row that is left out would say 0 of every place
+  silent-place : isLeftOut h bits r ≡ true → (place : ℕ) → place < length bits + h .outputs → getD (outputSide h bits rs r) place 0 ≡ nought
+  silent-place out place l = go (ltb place (length bits)) refl
+    where
+      go : (b : Bool) → ltb place (length bits) ≡ b → getD (outputSide h bits rs r) place 0 ≡ nought
+      go true e = code-place place (ltb-true place (length bits) e) ∙ ap (λ (d : ℕ). nought + d) (silent-bit h bits r out place)
+      go false e =
+          let j = place - length bits in
+          let at : place ≡ length bits + j = omega (arith, ltb-false place (length bits) e) in
+          ap (λ (k : ℕ). getD (outputSide h bits rs r) k 0) at ∙ output-place j (omega (arith, ltb-false place (length bits) e)) ∙ silent-output h bits r out rs j
 
 -- ---- what the lines of a cover say: the rows' lines alone fire
 
@@ -139,7 +153,7 @@ dot-fires l cs ds e = ap (λ (f : List ℕ). takes f ds) e ∙ go ds
     go (d ∷ ds) = ap (λ (b : Bool). b && takes cs ds) (ne-eqb dot (nought + d) (λ q. omega arith))
 
 module _ (t : Listing) (bits : List ℕ) (x s : ℕ) (some-inputs : 1 ≤ t .head .inputs)
-    (as-rows : (k : ℕ) → k < length (rowsOf t) → lineFires (coverRow (t .head) bits (rowsOf t) (getD (rowsOf t) k noRow)) (vector (t .head .inputs) x ++ codeOf bits s) ≡ fires (t .head) (getD (rowsOf t) k noRow) x s) where
+    (as-rows : (k : ℕ) → k < length (allRows t) → lineFires (coverRow (t .head) bits (allRows t) (getD (allRows t) k noRow)) (vector (t .head .inputs) x ++ codeOf bits s) ≡ fires (t .head) (getD (allRows t) k noRow) x s) where
   abbrev ds : List ℕ
   ds = vector (t .head .inputs) x ++ codeOf bits s
 
@@ -151,32 +165,45 @@ module _ (t : Listing) (bits : List ℕ) (x s : ℕ) (some-inputs : 1 ≤ t .hea
       go zero h = absurd (omega arith)
       go (suc i) h = refl
 
-  lines-say : (place c : ℕ) → coverSays (coverBodies t bits) ds place c ≡ some (λ r. fires (t .head) r x s && eqb (getD (outputSide (t .head) bits (rowsOf t) r) place 0) c) (rowsOf t)
+  -- of 1 and of dash, what the rows say that fire, those left out with them
+  lines-say : (place c : ℕ) → place < length bits + t .head .outputs → eqb nought c ≡ false
+      → coverSays (coverBodies t bits) ds place c ≡ some (λ r. fires (t .head) r x s && eqb (getD (outputSide (t .head) bits (allRows t) r) place 0) c) (allRows t)
   unfolding coverSays some split
-  lines-say place c =
+  lines-say place c within other =
       rw (
         dot-fires (bytes ".i " ++ decimal (t .head .inputs + length bits)) _ ds refl,
         dot-fires (bytes ".o " ++ decimal (length bits + t .head .outputs)) _ ds refl,
         dot-fires (bytes ".type fd") _ ds refl,
-        dot-fires (bytes ".p " ++ decimal (length (rowsOf t))) _ ds refl,
+        dot-fires (bytes ".p " ++ decimal (length (printedRows (t .head) bits (allRows t)))) _ ds refl,
       )
-      (some-append says (map (coverRow (t .head) bits (rowsOf t)) (rowsOf t)) (bytes ".e" ∷ ([] ∷ []))
-      ∙ ap₂ _||_ (same-some noRow (coverRow (t .head) bits (rowsOf t)) says said (rowsOf t) row-says) ends
-      ∙ or-false (some said (rowsOf t)))
+      (some-append says (map (coverRow (t .head) bits (allRows t)) (printedRows (t .head) bits (allRows t))) (bytes ".e" ∷ ([] ∷ []))
+      ∙ ap₂ _||_ (printed-some (t .head) bits (coverRow (t .head) bits (allRows t)) says said (allRows t) row-says silent) ends
+      ∙ or-false (some said (allRows t)))
     where
       says : List ℕ → Bool
       says l = lineFires l ds && eqb (getD (fieldAt l 1) place 0) c
 
       said : Row → Bool
-      said r = fires (t .head) r x s && eqb (getD (outputSide (t .head) bits (rowsOf t) r) place 0) c
+      said r = fires (t .head) r x s && eqb (getD (outputSide (t .head) bits (allRows t) r) place 0) c
 
-      row-says : (k : ℕ) → k < length (rowsOf t) → says (coverRow (t .head) bits (rowsOf t) (getD (rowsOf t) k noRow)) ≡ said (getD (rowsOf t) k noRow)
+      row-says : (k : ℕ) → k < length (allRows t) → says (coverRow (t .head) bits (allRows t) (getD (allRows t) k noRow)) ≡ said (getD (allRows t) k noRow)
       row-says k l =
           ap₂ _&&_ (as-rows k l)
-          (ap (λ (fs : List (List ℕ)). eqb (getD (getD fs 1 []) place 0) c) (cover-fields (t .head) bits (rowsOf t) (getD (rowsOf t) k noRow)))
+          (ap (λ (fs : List (List ℕ)). eqb (getD (getD fs 1 []) place 0) c) (cover-fields (t .head) bits (allRows t) (getD (allRows t) k noRow)))
+
+      silent : (r : Row) → isLeftOut (t .head) bits r ≡ true → said r ≡ false
+      silent r out = rw (silent-place (t .head) bits (allRows t) r out place within, other) (and-false (fires (t .head) r x s))
 
       ends : some says (bytes ".e" ∷ ([] ∷ [])) ≡ false
       ends = rw (dot-fires (bytes ".e") _ ds refl, none-fires)
+
+-- what is left out says nothing: of each place the firing lines say 1, or dash, exactly where those of the whole cover do
+module _ (t : Listing) (bits : List ℕ) (x s : ℕ) (some-inputs : 1 ≤ t .head .inputs)
+    (as-rows : (k : ℕ) → k < length (allRows t) → lineFires (coverRow (t .head) bits (allRows t) (getD (allRows t) k noRow)) (vector (t .head .inputs) x ++ codeOf bits s) ≡ fires (t .head) (getD (allRows t) k noRow) x s) where
+  pub as-whole : (place c : ℕ) → place < length bits + t .head .outputs → eqb nought c ≡ false
+      → coverSays (coverBodies t bits) (vector (t .head .inputs) x ++ codeOf bits s) place c ≡ coverSays (coverBodies (keepingAll t) bits) (vector (t .head .inputs) x ++ codeOf bits s) place c
+  unfolding fires coverRow allRows
+  as-whole place c within other = lines-say t bits x s some-inputs as-rows place c within other ∙ sym (lines-say (keepingAll t) bits x s some-inputs as-rows place c within other)
 
 -- ---- what the listing means of the next state
 
@@ -193,7 +220,7 @@ namer h x s (r ∷ rs) o = go (fires h r x s && not (eqb (r .next) 0)) refl o (n
     go true e o later = (0, omega arith, and-first (fires h r x s) (not (eqb (r .next) 0)) e, refl)
     go false e o later = let k = later o in (suc (k .0), omega (arith, k .1), k .2, k .3)
 
-module _ (h : Head) (rs : List Row) (few : h .inputs ≤ most-inputs) (sound : (k : ℕ) → k < length rs → SoundRow h (getD rs k noRow)) (apart : conflict rs ≡ Verdict.Accepted) (x s : ℕ) where
+module _ (h : Head) (rs : List Row) (few : h .inputs ≤ most-inputs) (sound : (k : ℕ) → k < length rs → FitRow h (getD rs k noRow)) (apart : Apart rs) (x s : ℕ) where
   -- two rows that fire and name a next state name the same
   same-next : (i j : ℕ) → i < length rs → j < length rs → fires h (getD rs i noRow) x s ≡ true → fires h (getD rs j noRow) x s ≡ true
       → (getD rs i noRow .next ≡ 0 → ⊥) → (getD rs j noRow .next ≡ 0 → ⊥) → getD rs i noRow .next ≡ getD rs j noRow .next
@@ -204,7 +231,7 @@ module _ (h : Head) (rs : List Row) (few : h .inputs ≤ most-inputs) (sound : (
       behind i j l lj fi fj ni nj =
           one-next (getD rs i noRow) (getD rs j noRow)
           (fire-together h few (getD rs i noRow) (getD rs j noRow) (sound i (omega arith)) (sound j lj) x s fi fj)
-          (rows-apart rs apart i j l lj) ni nj
+          (apart i j l lj) ni nj
 
       go : (t u : Bool) → ltb i j ≡ t → ltb j i ≡ u → getD rs i noRow .next ≡ getD rs j noRow .next
       go true u e f = behind i j (ltb-true i j e) lj fi fj ni nj
@@ -244,28 +271,29 @@ module _ (h : Head) (rs : List Row) (few : h .inputs ≤ most-inputs) (sound : (
 
 -- ---- the two agree
 
-module _ (t : Listing) (bits : List ℕ) (x s : ℕ) (sound : Sound t) (apart : conflict (rowsOf t) ≡ Verdict.Accepted)
-    (as-rows : (k : ℕ) → k < length (rowsOf t) → lineFires (coverRow (t .head) bits (rowsOf t) (getD (rowsOf t) k noRow)) (vector (t .head .inputs) x ++ codeOf bits s) ≡ fires (t .head) (getD (rowsOf t) k noRow) x s) where
+module _ (t : Listing) (bits : List ℕ) (x s : ℕ) (sound : Sound t) (apart : Apart (allRows t))
+    (as-rows : (k : ℕ) → k < length (allRows t) → lineFires (coverRow (t .head) bits (allRows t) (getD (allRows t) k noRow)) (vector (t .head .inputs) x ++ codeOf bits s) ≡ fires (t .head) (getD (allRows t) k noRow) x s) where
   abbrev digits-in : List ℕ
   digits-in = vector (t .head .inputs) x ++ codeOf bits s
 
-  abbrev rows-sound : (k : ℕ) → k < length (rowsOf t) → SoundRow (t .head) (getD (rowsOf t) k noRow)
-  rows-sound k l = row-of t sound k (omega (arith, rows-length t sound))
+  abbrev rows-sound : (k : ℕ) → k < length (allRows t) → FitRow (t .head) (getD (allRows t) k noRow)
+  rows-sound = all-fit t sound
 
   abbrev firing : (Row → Bool) → Bool
-  firing p = some (λ r. fires (t .head) r x s && p r) (rowsOf t)
+  firing p = some (λ r. fires (t .head) r x s && p r) (allRows t)
 
-  lines-mean : (place c : ℕ) (p : Row → ℕ) → ((r : Row) → getD (outputSide (t .head) bits (rowsOf t) r) place 0 ≡ p r)
+  lines-mean : (place c : ℕ) → place < length bits + t .head .outputs → eqb nought c ≡ false → (p : Row → ℕ) → ((r : Row) → getD (outputSide (t .head) bits (allRows t) r) place 0 ≡ p r)
       → coverSays (coverBodies t bits) digits-in place c ≡ firing (λ r. eqb (p r) c)
-  lines-mean place c p e =
-      lines-say t bits x s (sound .head .some-inputs) as-rows place c
-      ∙ some-like _ _ (rowsOf t) (λ r. ap (λ (m : ℕ). fires (t .head) r x s && eqb m c) (e r))
+  lines-mean place c within other p e =
+      lines-say t bits x s (sound .head .some-inputs) as-rows place c within other
+      ∙ some-like _ _ (allRows t) (λ r. ap (λ (m : ℕ). fires (t .head) r x s && eqb m c) (e r))
 
-  output-said : (j : ℕ) → j < t .head .outputs → (c : ℕ) → coverSays (coverBodies t bits) digits-in (length bits + j) c ≡ firing (λ r. eqb (outputAt (rowsOf t) r j) c)
-  output-said j l c = lines-mean (length bits + j) c (λ r. outputAt (rowsOf t) r j) (λ r. output-place (t .head) bits (rowsOf t) r j l)
+  pub output-said : (j : ℕ) → j < t .head .outputs → (c : ℕ) → eqb nought c ≡ false
+      → coverSays (coverBodies t bits) digits-in (length bits + j) c ≡ firing (λ r. eqb (outputAt (allRows t) r j) c)
+  output-said j l c other = lines-mean (length bits + j) c (omega arith) other (λ r. outputAt (allRows t) r j) (λ r. output-place (t .head) bits (allRows t) r j l)
 
-  output-ones : (j : ℕ) → j < t .head .outputs → coverSays (coverBodies t bits) digits-in (length bits + j) one ≡ firing (saysOne j)
-  output-ones j l = output-said j l one ∙ ones-same (t .head) (rowsOf t) (sound .head .few-inputs) rows-sound x s j
+  pub output-ones : (j : ℕ) → j < t .head .outputs → coverSays (coverBodies t bits) digits-in (length bits + j) one ≡ firing (saysOne j)
+  output-ones j l = output-said j l one refl ∙ ones-same (t .head) (allRows t) (sound .head .few-inputs) rows-sound x s j
 
   output-agrees : (j : ℕ) → j < t .head .outputs → placeAgrees (outputMeans t x s j) (coverBodies t bits) digits-in (length bits + j) ≡ true
   unfolding outputMeans placeAgrees
@@ -275,9 +303,9 @@ module _ (t : Listing) (bits : List ℕ) (x s : ℕ) (sound : Sound t) (apart : 
       few = sound .head .few-inputs
 
       go : (o d : Bool) → firing (saysOne j) ≡ o → firing (saysDash j) ≡ d → placeAgrees (cond o on (cond d free off)) (coverBodies t bits) digits-in (length bits + j) ≡ true
-      go true d e f = and-both _ _ (output-ones j l ∙ e) (ap not (output-said j l dash ∙ no-dash (t .head) (rowsOf t) few rows-sound x s j e))
+      go true d e f = and-both _ _ (output-ones j l ∙ e) (ap not (output-said j l dash refl ∙ no-dash (t .head) (allRows t) few rows-sound x s j e))
       go false true e f = refl
-      go false false e f = and-both _ _ (ap not (output-ones j l ∙ e)) (ap not (output-said j l dash ∙ no-dashes (t .head) (rowsOf t) few rows-sound x s j f))
+      go false false e f = and-both _ _ (ap not (output-ones j l ∙ e)) (ap not (output-said j l dash refl ∙ no-dashes (t .head) (allRows t) few rows-sound x s j f))
 
   -- of a free output our own cover says no 1
   pub free-quiet : (j : ℕ) → j < t .head .outputs → outputMeans t x s j ≡ free → coverSays (coverBodies t bits) digits-in (length bits + j) one ≡ false
@@ -295,21 +323,21 @@ module _ (t : Listing) (bits : List ℕ) (x s : ℕ) (sound : Sound t) (apart : 
       b : ℕ
       b = getD bits k 0
 
-      said : (c : ℕ) → coverSays (coverBodies t bits) digits-in k c ≡ firing (λ r. eqb (nought + digit (not (eqb (bitAnd b (r .next)) 0))) c)
-      said c = lines-mean k c (λ r. nought + digit (not (eqb (bitAnd b (r .next)) 0))) (λ r. bit-place (t .head) bits (rowsOf t) r k l)
+      said : (c : ℕ) → eqb nought c ≡ false → coverSays (coverBodies t bits) digits-in k c ≡ firing (λ r. eqb (nought + digit (not (eqb (bitAnd b (r .next)) 0))) c)
+      said c other = lines-mean k c (omega arith) other (λ r. nought + digit (not (eqb (bitAnd b (r .next)) 0))) (λ r. bit-place (t .head) bits (allRows t) r k l)
 
       ones : (nextMeans t x s ≡ 0 → ⊥) → coverSays (coverBodies t bits) digits-in k one ≡ not (eqb (bitAnd b (nextMeans t x s)) 0)
       ones o =
-          said one
-          ∙ some-like _ _ (rowsOf t) (λ r. ap (λ (v : Bool). fires (t .head) r x s && v) (is-one (not (eqb (bitAnd b (r .next)) 0))))
-          ∙ bit-said (t .head) (rowsOf t) (sound .head .few-inputs) rows-sound apart x s o b
+          said one refl
+          ∙ some-like _ _ (allRows t) (λ r. ap (λ (v : Bool). fires (t .head) r x s && v) (is-one (not (eqb (bitAnd b (r .next)) 0))))
+          ∙ bit-said (t .head) (allRows t) (sound .head .few-inputs) rows-sound apart x s o b
         where
           is-one : (v : Bool) → eqb (nought + digit v) one ≡ v
           is-one true = refl
           is-one false = refl
 
       dashes : coverSays (coverBodies t bits) digits-in k dash ≡ false
-      dashes = said dash ∙ none-some noRow _ (rowsOf t) (λ i h. never (fires (t .head) (getD (rowsOf t) i noRow) x s) (not (eqb (bitAnd b (getD (rowsOf t) i noRow .next)) 0)))
+      dashes = said dash refl ∙ none-some noRow _ (allRows t) (λ i h. never (fires (t .head) (getD (allRows t) i noRow) x s) (not (eqb (bitAnd b (getD (allRows t) i noRow .next)) 0)))
         where
           never : (f v : Bool) → (f && eqb (nought + digit v) dash) ≡ false
           never false v = refl

@@ -5,9 +5,9 @@ use Prim.Native.Nat.{ℕ, _+_}
 use native.Mathlib.Omega.{arith}
 use lib.ListN.{length}
 use Rattle.rules.specs.Text.{bytes, lf, space, dot, split, linesOf, decimal}
-use Rattle.rules.specs.Listing.{rowsOf}
+use Rattle.rules.specs.Listing.{allRows}
 use Rattle.rules.specs.Report.{joinedLines}
-use Rattle.rules.specs.Cover.{countedLine, coverRow, coverLines, cover}
+use Rattle.rules.specs.Cover.{countedLine, coverRow, printedRows, coverLines, cover}
 use Rattle.rules.specs.declared.Row.{Row}
 use Rattle.rules.specs.declared.Listing.{Listing}
 use Rattle.rules.proofs.Fields.{Without, none, more}
@@ -44,11 +44,12 @@ type-ended = ended-behind typed last
 pub cover-ended : (t : Listing) (bits : List ℕ) → AllEnded (coverLines t bits)
 unfolding coverLines
 cover-ended t bits =
+    let printed : List Row = printedRows (t .head) bits (allRows t) in
     line (counted-ended 105 (t .head .inputs + length bits) (λ e. omega arith))
     (line (counted-ended 111 (length bits + t .head .outputs) (λ e. omega arith))
     (line type-ended
-    (line (counted-ended 112 (length (rowsOf t)) (λ e. omega arith))
-    (ended-append (ended-map (λ r. coverRow (t .head) bits (rowsOf t) r ++ (lf ∷ [])) (λ r. ended-behind (row-without (t .head) bits (rowsOf t) r) last) (rowsOf t))
+    (line (counted-ended 112 (length printed) (λ e. omega arith))
+    (ended-append (ended-map (λ r. coverRow (t .head) bits (allRows t) r ++ (lf ∷ [])) (λ r. ended-behind (row-without (t .head) bits (allRows t) r) last) printed)
     (line end-ended no-line)))))
 
 -- ---- so the text parts into them
@@ -74,25 +75,28 @@ coverBodies t bits =
     (bytes ".i " ++ decimal (t .head .inputs + length bits))
     ∷ ((bytes ".o " ++ decimal (length bits + t .head .outputs))
     ∷ (bytes ".type fd"
-    ∷ ((bytes ".p " ++ decimal (length (rowsOf t)))
-    ∷ (map (coverRow (t .head) bits (rowsOf t)) (rowsOf t) ++ (bytes ".e" ∷ ([] ∷ []))))))
+    ∷ ((bytes ".p " ++ decimal (length (printedRows (t .head) bits (allRows t))))
+    ∷ (map (coverRow (t .head) bits (allRows t)) (printedRows (t .head) bits (allRows t)) ++ (bytes ".e" ∷ ([] ∷ []))))))
 
 pub cover-lines : (t : Listing) (bits : List ℕ) → linesOf (cover t bits) ≡ coverBodies t bits
 unfolding cover coverLines joinedLines
 cover-lines t bits =
-    counted-first 105 (t .head .inputs + length bits) (λ e. omega arith) (countedLine (bytes ".o ") outs ++ (bytes ".type fd\n" ++ (countedLine (bytes ".p ") (length (rowsOf t)) ++ rows)))
+    counted-first 105 (t .head .inputs + length bits) (λ e. omega arith) (countedLine (bytes ".o ") outs ++ (bytes ".type fd\n" ++ (countedLine (bytes ".p ") (length printed) ++ rows)))
     ∙ ap {B = List (List ℕ)} (λ ls. (bytes ".i " ++ decimal (t .head .inputs + length bits)) ∷ ls)
-    (counted-first 111 outs (λ e. omega arith) (bytes ".type fd\n" ++ (countedLine (bytes ".p ") (length (rowsOf t)) ++ rows))
+    (counted-first 111 outs (λ e. omega arith) (bytes ".type fd\n" ++ (countedLine (bytes ".p ") (length printed) ++ rows))
     ∙ ap {B = List (List ℕ)} (λ ls. (bytes ".o " ++ decimal outs) ∷ ls)
-    (lines-first (bytes ".type fd\n") (countedLine (bytes ".p ") (length (rowsOf t)) ++ rows) (bytes ".type fd") refl typed
+    (lines-first (bytes ".type fd\n") (countedLine (bytes ".p ") (length printed) ++ rows) (bytes ".type fd") refl typed
     ∙ ap {B = List (List ℕ)} (λ ls. bytes ".type fd" ∷ ls)
-    (counted-first 112 (length (rowsOf t)) (λ e. omega arith) rows
-    ∙ ap {B = List (List ℕ)} (λ ls. (bytes ".p " ++ decimal (length (rowsOf t))) ∷ ls)
-    (rows-first (coverRow (t .head) bits (rowsOf t)) (row-without (t .head) bits (rowsOf t)) (rowsOf t) (bytes ".e\n" ∷ [])
-    ∙ ap (λ (ls : List (List ℕ)). map (coverRow (t .head) bits (rowsOf t)) (rowsOf t) ++ ls) last-line))))
+    (counted-first 112 (length printed) (λ e. omega arith) rows
+    ∙ ap {B = List (List ℕ)} (λ ls. (bytes ".p " ++ decimal (length printed)) ∷ ls)
+    (rows-first (coverRow (t .head) bits (allRows t)) (row-without (t .head) bits (allRows t)) printed (bytes ".e\n" ∷ [])
+    ∙ ap (λ (ls : List (List ℕ)). map (coverRow (t .head) bits (allRows t)) printed ++ ls) last-line))))
   where
     outs : ℕ
     outs = length bits + t .head .outputs
 
+    printed : List Row
+    printed = printedRows (t .head) bits (allRows t)
+
     rows : List ℕ
-    rows = joinedLines (map (λ r. coverRow (t .head) bits (rowsOf t) r ++ (lf ∷ [])) (rowsOf t) ++ (bytes ".e\n" ∷ []))
+    rows = joinedLines (map (λ r. coverRow (t .head) bits (allRows t) r ++ (lf ∷ [])) printed ++ (bytes ".e\n" ∷ []))

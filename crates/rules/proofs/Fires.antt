@@ -155,7 +155,7 @@ row-fires h bits rs r fits m k e distinct met x s l =
 -- ---- what it carries
 
 -- a set holds one state exactly when its part in that state is not empty
-part-has : (b u : ℕ) → digit (not (eqb (bitAnd b (only u)) 0)) ≡ has b u
+pub part-has : (b u : ℕ) → digit (not (eqb (bitAnd b (only u)) 0)) ≡ has b u
 part-has b u =
     ⊎-elim
     (λ e. ap (λ (t : Bool). digit (not t)) (eq-eqb part 0 (empty e)) ∙ sym e)

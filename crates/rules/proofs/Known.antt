@@ -1,4 +1,4 @@
--- P1 to P10 of 01, "Known examples": one table, one test that is computed over all of it, and the law that makes it each case's statement.
+-- P1 to P10 of 01, "Known examples", and a sequencer: one table, one test that is computed over all of it, and the law that makes it each case's statement.
 use mathlib.Core.Path.{_≡_, refl, ap₂}
 use mathlib.Core.Bool.{Bool, true, false, _&&_}
 use mathlib.Core.List.{List, [], _∷_, map}
@@ -69,6 +69,10 @@ pub data Case : Type 0 where
 p1 : String
 p1 = "MC 3 1 1 0\nPT 0 110 001 1\nPT 1 101 100 0\nEN\n"
 
+-- P1 with every row kept
+p1-kept : String
+p1-kept = "MC 3 1 1 0 1\nPT 0 110 001 1\nPT 1 101 100 0\nEN\n"
+
 p2 : String
 p2 = "MC 3 1 1 1\nPT 0 110 001 1\nPT 1 101 100 0\nEN\n"
 
@@ -90,11 +94,16 @@ p7 = "100" ∷ "101" ∷ "010" ∷ "111" ∷ []
 p9 : String
 p9 = "MC 3 1 1 0\nPT 0 110 100 1\nPT - 010 001 1\nEN\n"
 
+-- a sequencer, as 02, request 13, has it
+sequencer : String
+sequencer = "MO 4 2 3 0\nPT 1- 1000 0100\nPT 0- 1000 1000\nOU 3 0-1\nPT -1 0100 0010\nPT -0 0100 0100\nPT -1 0010 0001\nPT -0 0010 0010\nPT -- 0001 1000\nOU 0 000\nOU 1 100\nOU 2 010\nEN\n"
+
 pub cases : List Case
-unfolding p1 p2 p3 p4 p5 p6 p7 p9
+unfolding p1 p1-kept p2 p3 p4 p5 p6 p7 p9 sequencer
 cases =
     reports p1 "CT 2 5 0 2 17\nSC 0 00\nSC 1 10\nSC 2 01\nBY 0 0\nBY 1 1\nBY 2 0\nBY 3 1\nBY 4 0\nEN\n"
-    ∷ covers p1 ".i 3\n.o 3\n.type fd\n.p 2\n0-0 011\n10- 000\n.e\n"
+    ∷ covers p1 ".i 3\n.o 3\n.type fd\n.p 1\n0-0 011\n.e\n"
+    ∷ covers p1-kept ".i 3\n.o 3\n.type fd\n.p 2\n0-0 011\n10- 000\n.e\n"
     ∷ reports p2 "CT 1 5 2 1 12\nSC 0 0\nSC 1 1\nSC 2 0\nBY 0 0\nBY 2 0\nBY 4 0\nUN 1\nUN 3\nEN\n"
     ∷ covers p2 "NO 9 0\n"
     ∷ buys p2 "WD 1 2 0\nWD 2 0 1\nEN\n"
@@ -117,8 +126,12 @@ cases =
     ∷ looked "+++++" (0 ∷ 1 ∷ 2 ∷ 3 ∷ 4 ∷ []) (1 ∷ 1 ∷ 0 ∷ 1 ∷ 1 ∷ [])
     ∷ reports p9 "NO 6 3\n"
     ∷ covers p9 "NO 6 3\n"
-    ∷ reads "MC 64 1 1 64" (record { states = 64; inputs = 1; outputs = 1; width = 64 })
+    ∷ reads "MC 64 1 1 64" (record { states = 64; inputs = 1; outputs = 1; width = 64; keeps = false; moore = false })
+    ∷ reads "MC 64 1 1 64 1" (record { states = 64; inputs = 1; outputs = 1; width = 64; keeps = true; moore = false })
+    ∷ reads "MO 64 1 1 64" (record { states = 64; inputs = 1; outputs = 1; width = 64; keeps = false; moore = true })
     ∷ reports "MC 65 1 1 0\n" "NO 2 1\n"
+    ∷ covers sequencer ".i 4\n.o 5\n.type fd\n.p 8\n1-00 01000\n-101 11000\n-001 01000\n-111 10000\n-011 11000\n--01 00100\n--11 00010\n--10 000-1\n.e\n"
+    ∷ reports "MO 2 1 1 0\nOU 1 1\nEN\n" "NO 17 3\n"
     ∷ []
 
 -- ---- what a case states
@@ -127,7 +140,7 @@ abbrev pub Holds : Case → Type 0
 Holds (reports listing text) = printed (reportReply (bytes listing)) ≡ bytes text
 Holds (covers listing text) = printed (coverReply (bytes listing)) ≡ bytes text
 Holds (buys listing text) = printed (widthsReply (bytes listing)) ≡ bytes text
-Holds (reads line head) = headLine (bytes line) ≡ HeadLine.Read head
+Holds (reads line head) = headLine (head .moore) (bytes line) ≡ HeadLine.Read head
 Holds (faces codes group text) =
     (face (length codes) (bitsOf codes) (setOf one (bytes group)) ≡ bytes text)
     × (allMet (length codes) (bitsOf codes) (groupAsks (length codes) (setOf one (bytes group))) ≡ true)
@@ -141,7 +154,7 @@ AllHold (c ∷ cs) = Holds c × AllHold cs
 -- ---- the test
 
 sameHead : HeadLine → Head → Bool
-sameHead (HeadLine.Read a) b = eqb (a .states) (b .states) && eqb (a .inputs) (b .inputs) && eqb (a .outputs) (b .outputs) && eqb (a .width) (b .width)
+sameHead (HeadLine.Read a) b = eqb (a .states) (b .states) && eqb (a .inputs) (b .inputs) && eqb (a .outputs) (b .outputs) && eqb (a .width) (b .width) && eqb (digit (a .keeps)) (digit (b .keeps)) && eqb (digit (a .moore)) (digit (b .moore))
 sameHead (HeadLine.Refused r) b = false
 
 right : Case → Bool
@@ -149,7 +162,7 @@ unfolding same reportReply coverReply widthsReply printed headLine sameHead face
 right (reports listing text) = same (printed (reportReply (bytes listing))) (bytes text)
 right (covers listing text) = same (printed (coverReply (bytes listing))) (bytes text)
 right (buys listing text) = same (printed (widthsReply (bytes listing))) (bytes text)
-right (reads line head) = sameHead (headLine (bytes line)) head
+right (reads line head) = sameHead (headLine (head .moore) (bytes line)) head
 right (faces codes group text) =
     same (face (length codes) (bitsOf codes) (setOf one (bytes group))) (bytes text)
     && allMet (length codes) (bitsOf codes) (groupAsks (length codes) (setOf one (bytes group)))
@@ -174,16 +187,31 @@ same-eq [] (y ∷ ys) e = absurd (let z : _≡_ {A = ℕ} 0 1 = cc in omega arit
 same-eq (x ∷ xs) [] e = absurd (let z : _≡_ {A = ℕ} 0 1 = cc in omega arith)
 same-eq (x ∷ xs) (y ∷ ys) e = ap₂ (λ (a : ℕ) (l : List ℕ). a ∷ l) (eqb-true x y (and-first (eqb x y) (same xs ys) e)) (same-eq xs ys (and-second (eqb x y) (same xs ys) e))
 
+digit-same : (a b : Bool) → digit a ≡ digit b → a ≡ b
+digit-same true true e = refl
+digit-same true false e = absurd (omega arith)
+digit-same false true e = absurd (omega arith)
+digit-same false false e = refl
+
 head-eq : (a : HeadLine) (b : Head) → sameHead a b ≡ true → a ≡ HeadLine.Read b
 unfolding sameHead
 head-eq (HeadLine.Read a) b e =
-    let e₃ = and-first (eqb (a .states) (b .states) && eqb (a .inputs) (b .inputs) && eqb (a .outputs) (b .outputs)) (eqb (a .width) (b .width)) e in
-    let e₂ = and-first (eqb (a .states) (b .states) && eqb (a .inputs) (b .inputs)) (eqb (a .outputs) (b .outputs)) e₃ in
-    let p : a .states ≡ b .states = eqb-true _ _ (and-first (eqb (a .states) (b .states)) (eqb (a .inputs) (b .inputs)) e₂) in
-    let q : a .inputs ≡ b .inputs = eqb-true _ _ (and-second (eqb (a .states) (b .states)) (eqb (a .inputs) (b .inputs)) e₂) in
-    let r : a .outputs ≡ b .outputs = eqb-true _ _ (and-second (eqb (a .states) (b .states) && eqb (a .inputs) (b .inputs)) (eqb (a .outputs) (b .outputs)) e₃) in
-    let w : a .width ≡ b .width = eqb-true _ _ (and-second (eqb (a .states) (b .states) && eqb (a .inputs) (b .inputs) && eqb (a .outputs) (b .outputs)) (eqb (a .width) (b .width)) e) in
-    λ i. HeadLine.Read (record { states = p i; inputs = q i; outputs = r i; width = w i })
+    let to-states = eqb (a .states) (b .states) in
+    let to-inputs = to-states && eqb (a .inputs) (b .inputs) in
+    let to-outputs = to-inputs && eqb (a .outputs) (b .outputs) in
+    let to-width = to-outputs && eqb (a .width) (b .width) in
+    let to-keeps = to-width && eqb (digit (a .keeps)) (digit (b .keeps)) in
+    let e₅ = and-first to-keeps (eqb (digit (a .moore)) (digit (b .moore))) e in
+    let e₄ = and-first to-width (eqb (digit (a .keeps)) (digit (b .keeps))) e₅ in
+    let e₃ = and-first to-outputs (eqb (a .width) (b .width)) e₄ in
+    let e₂ = and-first to-inputs (eqb (a .outputs) (b .outputs)) e₃ in
+    let p : a .states ≡ b .states = eqb-true _ _ (and-first to-states (eqb (a .inputs) (b .inputs)) e₂) in
+    let q : a .inputs ≡ b .inputs = eqb-true _ _ (and-second to-states (eqb (a .inputs) (b .inputs)) e₂) in
+    let r : a .outputs ≡ b .outputs = eqb-true _ _ (and-second to-inputs (eqb (a .outputs) (b .outputs)) e₃) in
+    let w : a .width ≡ b .width = eqb-true _ _ (and-second to-outputs (eqb (a .width) (b .width)) e₄) in
+    let k : a .keeps ≡ b .keeps = digit-same (a .keeps) (b .keeps) (eqb-true _ _ (and-second to-width (eqb (digit (a .keeps)) (digit (b .keeps))) e₅)) in
+    let m : a .moore ≡ b .moore = digit-same (a .moore) (b .moore) (eqb-true _ _ (and-second to-keeps (eqb (digit (a .moore)) (digit (b .moore))) e)) in
+    λ i. HeadLine.Read (record { states = p i; inputs = q i; outputs = r i; width = w i; keeps = k i; moore = m i })
 head-eq (HeadLine.Refused r) b e = absurd (let z : _≡_ {A = ℕ} 0 1 = cc in omega arith)
 
 right-holds : (c : Case) → right c ≡ true → Holds c

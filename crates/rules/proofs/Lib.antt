@@ -27,12 +27,15 @@ pub mod Characters
 pub mod SoundLines
 pub mod Sharing
 pub mod Sound
+pub mod AllRows
 pub mod Most
 pub mod Ended
 pub mod ReportLines
+pub mod Printed
 pub mod CoverLines
 pub mod Written
 pub mod Agreeing
+pub mod Moore
 pub mod Reported
 pub mod Parts
 pub mod Wider

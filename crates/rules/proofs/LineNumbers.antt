@@ -11,22 +11,24 @@ use lib.Seq.{getD-set-same, getD-set-other, set-out, getD-take}
 use borrow.Author.Tests.{leb-true}
 use Rattle.rules.specs.Limits.{most-bytes}
 use Rattle.rules.specs.Text.{push, split, linesOf, markOf, markIs}
-use Rattle.rules.specs.Lines.{headLine, rowLine, dichotomyLine, endLine}
-use Rattle.rules.specs.Listing.{noRow, blank, withRow, rowsOf, accepted, refused, Step, goes, ends, stops, onHead, onRow, onDichotomy, onEnd, firstLine, laterLine, lineStep, nothing, ended, placed, unended, readLines, clash, clashWith, orElse, conflict, judged, checked, reading}
+use Rattle.rules.specs.Lines.{headLine, rowLine, dichotomyLine, outputsLine, endLine}
+use Rattle.rules.specs.Listing.{noRow, blank, withRow, rowsOf, accepted, refused, Step, goes, ends, stops, onHead, onRow, onDichotomy, onOutputs, onEnd, placed, lineDoes, lineStep, nothing, complete, ended, unended, readLines, clash, clashWith, orElse, conflict, judged, checked, reading}
+use Rattle.rules.specs.declared.Head.{Head}
 use Rattle.rules.specs.declared.Row.{Row}
 use Rattle.rules.specs.declared.Listing.{Listing}
 use Rattle.rules.specs.declared.Mark.{Mark}
-use Rattle.rules.specs.declared.Mark.the-variants.{Mc, Pt, Di, En, Unknown}
+use Rattle.rules.specs.declared.Mark.the-variants.{Mc, Mo, Pt, Di, Ou, En, Unknown}
 use Rattle.rules.specs.declared.Refusal.{Refusal}
-use Rattle.rules.specs.declared.Refusal.the-variants.{BadLine, Limit, Place, Conflict}
+use Rattle.rules.specs.declared.Refusal.the-variants.{BadLine, Limit, Place, Conflict, NoOutputs}
 use Rattle.rules.specs.declared.Verdict.{Verdict}
 use Rattle.rules.specs.declared.HeadLine.{HeadLine}
 use Rattle.rules.specs.declared.RowLine.{RowLine}
 use Rattle.rules.specs.declared.DichotomyLine.{DichotomyLine}
+use Rattle.rules.specs.declared.OutputsLine.{OutputsLine}
 use Rattle.rules.specs.declared.EndLine.{EndLine}
 use Rattle.rules.specs.declared.Reading.{Reading}
-use Rattle.rules.proofs.SoundLines.{row-line}
-use Rattle.rules.proofs.Sound.{goes-same, stops-not, line-first, line-later, after, reads-on, reads-none, reads-last}
+use Rattle.rules.proofs.SoundLines.{row-read}
+use Rattle.rules.proofs.Sound.{goes-same, stops-not, step-placed, after, reads-on, reads-none, reads-last}
 
 -- a refusal is at line m or above, and the rows of an accepted listing stand there
 abbrev Numbered : ℕ → Listing → Type 0
@@ -61,59 +63,51 @@ row-numbered m t r h f j q = go (decLt (t .rows) (length (t .table))) (ℕ-discr
         rw (set-out (t .table) (t .rows) r o, e, List·getD-eq-default (t .table) noRow {n = t .rows} o) (omega arith)
     go (no l) (no e) = rw (getD-set-other (t .table) (t .rows) j r noRow e) (f j (omega arith))
 
-first-numbered : (m : ℕ) (x : Mark) (t : Listing) (l : List ℕ) (u : Listing) → Numbered m t → firstLine x t l ≡ goes u → Numbered m u
-unfolding firstLine
-first-numbered m Mc t l u f e = on (headLine l) e
-  where
-    on : (x : HeadLine) → onHead x t ≡ goes u → Numbered m u
-    on (HeadLine.Read h) e = subst (Numbered m) (goes-same _ _ e) f
-    on (HeadLine.Refused r) e = absurd (stops-not r u e)
-first-numbered m Pt t l u f e = absurd (stops-not Place u e)
-first-numbered m Di t l u f e = absurd (stops-not Place u e)
-first-numbered m En t l u f e = absurd (stops-not Place u e)
-first-numbered m Unknown t l u f e = absurd (stops-not Place u e)
+head-numbered : (m : ℕ) (x : HeadLine) (t u : Listing) → Numbered m t → onHead x t ≡ goes u → Numbered m u
+head-numbered m (HeadLine.Read h) t u f e = subst (Numbered m) (goes-same _ _ e) f
+head-numbered m (HeadLine.Refused r) t u f e = absurd (stops-not r u e)
 
-later-numbered : (m : ℕ) (x : Mark) (k : ℕ) (t : Listing) (l : List ℕ) (u : Listing) → k ≤ m → Numbered m t → laterLine x k t l ≡ goes u → Numbered m u
-unfolding laterLine
-later-numbered m Mc k t l u h f e = absurd (stops-not Place u e)
-later-numbered m Pt k t l u h f e = on (rowLine (t .head) (t .rows) k l) refl e
+does-numbered : (m : ℕ) (x : Mark) (k : ℕ) (t : Listing) (l : List ℕ) (u : Listing) → k ≤ m → Numbered m t → lineDoes x k t l ≡ goes u → Numbered m u
+unfolding lineDoes
+does-numbered m Mc k t l u h f e = head-numbered m (headLine false l) t u f e
+does-numbered m Mo k t l u h f e = head-numbered m (headLine true l) t u f e
+does-numbered m Pt k t l u h f e = on (rowLine (t .head) (t .rows) k l) refl e
   where
     on : (x : RowLine) → rowLine (t .head) (t .rows) k l ≡ x → onRow x t ≡ goes u → Numbered m u
-    on (RowLine.Read r) q e = subst (Numbered m) (goes-same _ _ e) (row-numbered m t r (omega (arith, row-line (t .head) (t .rows) k l r q)) f)
+    on (RowLine.Read r) q e = subst (Numbered m) (goes-same _ _ e) (row-numbered m t r (omega (arith, row-read (t .head) (t .rows) k l r q .keeps-line)) f)
     on (RowLine.Refused r) q e = absurd (stops-not r u e)
-later-numbered m Di k t l u h f e = on (dichotomyLine (t .head) (t .dichotomies) l) e
+does-numbered m Di k t l u h f e = on (dichotomyLine (t .head) (t .dichotomies) l) e
   where
     on : (x : DichotomyLine) → onDichotomy x t ≡ goes u → Numbered m u
     on (DichotomyLine.Read d) e = subst (Numbered m) (goes-same _ _ e) f
     on (DichotomyLine.Refused r) e = absurd (stops-not r u e)
-later-numbered m En k t l u h f e = on (endLine l) e
+does-numbered m Ou k t l u h f e = on (outputsLine (t .head) l) e
+  where
+    on : (x : OutputsLine) → onOutputs x t ≡ goes u → Numbered m u
+    on (OutputsLine.Read n p) e = subst (Numbered m) (goes-same _ _ e) f
+    on (OutputsLine.Refused r) e = absurd (stops-not r u e)
+does-numbered m En k t l u h f e = on (endLine l) e
   where
     on : (x : EndLine) → onEnd x ≡ goes u → Numbered m u
     on EndLine.Read e = absurd (let z : _≡_ {A = ℕ} 0 1 = cc in omega arith)
     on (EndLine.Refused r) e = absurd (stops-not r u e)
-later-numbered m Unknown k t l u h f e = absurd (stops-not BadLine u e)
-
-line-numbered : (m k : ℕ) (t : Listing) (l : List ℕ) (u : Listing) → 1 ≤ k → k ≤ m → Numbered m t → lineStep k t l ≡ goes u → Numbered m u
-line-numbered m k t l u p h f e = go (ℕ-discrete k 1)
-  where
-    go : Dec (k ≡ 1) → Numbered m u
-    go (yes q) = first-numbered m (markIs (markOf l)) t l u f (sym (line-first t l) ∙ ap (λ (i : ℕ). lineStep i t l) (sym q) ∙ e)
-    go (no q) = later-numbered m (markIs (markOf l)) k t l u h f (sym (line-later k t l (omega arith)) ∙ e)
+does-numbered m Unknown k t l u h f e = absurd (stops-not BadLine u e)
 
 -- ---- all lines: those from number k on, of which there are at most so many
 
 ended-within : (m k : ℕ) (t : Listing) (rest : List (List ℕ)) → k < m → Numbered m t → Within m (ended k t rest)
 unfolding ended
-ended-within m k t rest h f = go (nothing rest)
+ended-within m k t rest h f = go (nothing rest) (complete (t .head) (t .given))
   where
-    go : (b : Bool) → Within m (cond b (accepted t) (refused Place (k + 1)))
-    go true = record { line = tt; rows = f }
-    go false = refused-within m Place (k + 1) (omega arith)
+    go : (b c : Bool) → Within m (cond b (cond c (accepted t) (refused NoOutputs k)) (refused Place (k + 1)))
+    go true true = record { line = tt; rows = f }
+    go true false = refused-within m NoOutputs k (omega arith)
+    go false c = refused-within m Place (k + 1) (omega arith)
 
-unended-within : (m k : ℕ) (l : List ℕ) → k ≤ m → Within m (unended k l)
+unended-within : (m k : ℕ) (g : Head) (given : ℕ) (l : List ℕ) → k ≤ m → Within m (unended k g given l)
 unfolding unended
-unended-within m k [] h = refused-within m Place k h
-unended-within m k (x ∷ xs) h = go (placed k (markIs (markOf (x ∷ xs))))
+unended-within m k g given [] h = refused-within m Place k h
+unended-within m k g given (x ∷ xs) h = go (placed (markIs (markOf (x ∷ xs))) k g given (x ∷ xs))
   where
     go : (b : Bool) → Within m (cond b (refused BadLine k) (refused Place k))
     go true = refused-within m BadLine k h
@@ -122,12 +116,12 @@ unended-within m k (x ∷ xs) h = go (placed k (markIs (markOf (x ∷ xs))))
 lines-within : (m k : ℕ) (t : Listing) (ls : List (List ℕ)) → 1 ≤ k → k + length ls ≤ m → Numbered m t → Within m (readLines k t ls)
 unfolding after
 lines-within m k t [] p h f = rw (reads-none k t) (refused-within m Place k (omega arith))
-lines-within m k t (l ∷ []) p h f = rw (reads-last k t l) (unended-within m k l (omega arith))
+lines-within m k t (l ∷ []) p h f = rw (reads-last k t l) (unended-within m k (t .head) (t .given) l (omega arith))
 lines-within m k t (l ∷ (x ∷ xs)) p h f =
     rw (reads-on k t l x xs) (go (lineStep k t l) refl (λ u g. lines-within m (k + 1) u (x ∷ xs) (omega arith) (omega arith) g))
   where
     go : (s : Step) → lineStep k t l ≡ s → ((u : Listing) → Numbered m u → Within m (readLines (k + 1) u (x ∷ xs))) → Within m (after k t (x ∷ xs) s)
-    go (goes u) e g = g u (line-numbered m k t l u p (omega arith) f e)
+    go (goes u) e g = g u (does-numbered m (markIs (markOf l)) k t l u (omega arith) f (step-placed k t u l e .1))
     go ends e g = ended-within m k t (x ∷ xs) (omega arith) f
     go (stops r) e g = refused-within m r k (omega arith)
 

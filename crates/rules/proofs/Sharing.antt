@@ -22,9 +22,9 @@ use Rattle.rules.specs.declared.Reading.{Reading}
 use Rattle.rules.specs.declared.Verdict.{Verdict}
 use Rattle.rules.specs.declared.Refusal.{Refusal}
 use Rattle.rules.specs.declared.Refusal.the-variants.{Conflict, Limit}
-use Rattle.rules.proofs.SoundLines.{SoundRow}
+use Rattle.rules.proofs.SoundLines.{FitRow}
 
-module _ (h : Head) (few : h .inputs ≤ most-inputs) (a b : Row) (sa : SoundRow h a) (sb : SoundRow h b) (x s : ℕ) (fa : fires h a x s ≡ true) (fb : fires h b x s ≡ true) where
+module _ (h : Head) (few : h .inputs ≤ most-inputs) (a b : Row) (sa : FitRow h a) (sb : FitRow h b) (x s : ℕ) (fa : fires h a x s ≡ true) (fb : fires h b x s ≡ true) where
   -- a row that fires takes the vector's digit, or has a dash there
   takes-digit : (r : Row) → fires h r x s ≡ true → (j : ℕ) → j < h .inputs → (eqb (has (r .input .dashes) j) 1 || eqb (has (r .input .ones) j) (has x j)) ≡ true
   unfolding fires
@@ -53,7 +53,7 @@ module _ (h : Head) (few : h .inputs ≤ most-inputs) (a b : Row) (sa : SoundRow
           both (eqb (has (a .input .dashes) j) 1) (eqb (has (b .input .dashes) j) 1) (takes-digit a fa j (ltb-true j (h .inputs) e)) (takes-digit b fb j (ltb-true j (h .inputs) e))
       within false e =
           let past = ltb-false j (h .inputs) e in
-          let like = eq-eqb (has (a .input .ones) j) (has (b .input .ones) j) (has-high (h .inputs) (a .input .ones) j (sa .input .ones) past ∙ sym (has-high (h .inputs) (b .input .ones) j (sb .input .ones) past)) in
+          let like = eq-eqb (has (a .input .ones) j) (has (b .input .ones) j) (has-high (h .inputs) (a .input .ones) j (sa .ones) past ∙ sym (has-high (h .inputs) (b .input .ones) j (sb .ones) past)) in
           rw like (ap (λ (t : Bool). eqb (has (a .input .dashes) j) 1 || t) (or-true (eqb (has (b .input .dashes) j) 1)) ∙ or-true (eqb (has (a .input .dashes) j) 1))
 
   state-shared : bitAnd (a .group) (b .group) ≡ 0 → ⊥

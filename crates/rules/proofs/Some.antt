@@ -1,7 +1,7 @@
--- Some entry of a list: where it stands, what of one entry says of the list, and of a list of what was made of entries.
+-- Some entry of a list: where it stands, and what one entry says of the list.
 use mathlib.Core.Path.{_≡_, refl, ap, ap₂, _∙_}
 use mathlib.Core.Bool.{Bool, true, false, _||_, or-true}
-use mathlib.Core.List.{List, [], _∷_, _++_, map}
+use mathlib.Core.List.{List, [], _∷_, _++_}
 use Prim.Native.Nat.{ℕ, zero, suc, _<_}
 use native.Mathlib.Omega.{arith}
 use lib.ListN.{length, getD}
@@ -38,12 +38,6 @@ module _ {A : Type 0} (d : A) where
       go : (b : Bool) → p (getD xs k d) ≡ b → p (getD xs k d) ≡ false
       go true q = let z : _≡_ {A = ℕ} 0 1 = cc (at-some p xs k h q) in absurd (omega arith)
       go false q = q
-
-  -- of each nothing else is said
-  pub same-some : {B : Type 0} (f : A → B) (p : B → Bool) (q : A → Bool) (xs : List A) → ((k : ℕ) → k < length xs → p (f (getD xs k d)) ≡ q (getD xs k d)) → some p (map f xs) ≡ some q xs
-  unfolding some
-  same-some f p q [] h = refl
-  same-some f p q (x ∷ xs) h = ap₂ _||_ (h 0 (omega arith)) (same-some f p q xs (λ k l. h (suc k) (omega arith)))
 
 pub some-append : {A : Type 0} (p : A → Bool) (xs ys : List A) → some p (xs ++ ys) ≡ (some p xs || some p ys)
 unfolding some

@@ -1,44 +1,52 @@
--- What an accepted listing grants: numbers within 01's limits, and every row and dichotomy within the head's numbers.
+-- What an accepted listing grants: numbers within 01's limits, every row, dichotomy and state's outputs within the head's numbers, and outputs for each state of a
+-- Moore machine.
 use mathlib.Core.Path.{_≡_, refl, sym, subst, _∙_}
-use mathlib.Core.Bool.{Bool, true, false, cond}
+use mathlib.Core.Bool.{Bool, true, false, cond, false≢true}
 use mathlib.Core.List.{List, [], _∷_}
-use Prim.Native.Nat.{ℕ, _+_, _≤_, _<_}
+use Prim.Native.Nat.{ℕ, zero, suc, _+_, _≤_, _<_}
 use native.Mathlib.Decide.{ℕ-discrete}
 use native.Mathlib.Omega.{arith}
 use lib.Dec.{leb}
-use lib.ListN.{length, getD, set, length-set, length-replicate}
+use lib.ListN.{length, getD, set, replicate, length-set, length-replicate}
 use lib.Seq.{length-take-le, getD-take, getD-set-same, getD-set-other}
-use borrow.Author.Tests.{ne-eqb}
-use Rattle.rules.specs.Limits.{most-bytes, most-rows, most-dichotomies}
+use borrow.Author.Tests.{eqb-true}
+use Rattle.rules.specs.Limits.{most-bytes, most-states, most-rows, most-dichotomies}
 use Rattle.rules.specs.Text.{linesOf, markOf, markIs}
-use Rattle.rules.specs.Lines.{headLine, rowLine, dichotomyLine, endLine}
-use Rattle.rules.specs.Listing.{noRow, noRequirement, blank, withHead, withRow, withDichotomy, rowsOf}
-use Rattle.rules.specs.Listing.{Step, goes, ends, stops, onHead, onRow, onDichotomy, onEnd, firstLine, laterLine, lineStep}
-use Rattle.rules.specs.Listing.{accepted, refused, nothing, ended, placed, unended, readLines, conflict, judged, checked, reading}
+use Rattle.rules.specs.Lines.{headLine, rowLine, dichotomyLine, outputsLine, endLine}
+use Rattle.rules.specs.Listing.{noPattern, noRow, noRequirement, blank, withHead, withRow, withDichotomy, withOutputs, rowsOf}
+use Rattle.rules.specs.Listing.{Step, goes, ends, stops, onHead, onRow, onDichotomy, onOutputs, onEnd, placed, lineDoes, lineStep}
+use Rattle.rules.specs.Listing.{accepted, refused, nothing, complete, ended, unended, readLines, conflict, judged, checked, reading}
 use Rattle.rules.specs.declared.Head.{Head}
+use Rattle.rules.specs.declared.Pattern.{Pattern}
 use Rattle.rules.specs.declared.Row.{Row}
 use Rattle.rules.specs.declared.Requirement.{Requirement}
 use Rattle.rules.specs.declared.Listing.{Listing}
 use Rattle.rules.specs.declared.Mark.{Mark}
-use Rattle.rules.specs.declared.Mark.the-variants.{Mc, Pt, Di, En, Unknown}
+use Rattle.rules.specs.declared.Mark.the-variants.{Mc, Mo, Pt, Di, Ou, En, Unknown}
 use Rattle.rules.specs.declared.Refusal.{Refusal}
-use Rattle.rules.specs.declared.Refusal.the-variants.{BadLine, Limit, Place}
+use Rattle.rules.specs.declared.Refusal.the-variants.{BadLine, Limit, Place, NoOutputs}
 use Rattle.rules.specs.declared.Verdict.{Verdict}
 use Rattle.rules.specs.declared.HeadLine.{HeadLine}
 use Rattle.rules.specs.declared.RowLine.{RowLine}
 use Rattle.rules.specs.declared.DichotomyLine.{DichotomyLine}
+use Rattle.rules.specs.declared.OutputsLine.{OutputsLine}
 use Rattle.rules.specs.declared.EndLine.{EndLine}
 use Rattle.rules.specs.declared.Reading.{Reading}
-use Rattle.rules.proofs.SoundLines.{SoundHead, SoundRow, SoundBlocks, head-sound, row-sound, dichotomy-sound}
+use Rattle.rules.proofs.SoundLines.{SoundHead, SoundPattern, SoundRow, SoundBlocks, no-pattern, head-sound, ReadRow, row-read, dichotomy-sound, outputs-sound}
+use Rattle.rules.proofs.Ways.{chose-first}
 
 pub record Sound (t : Listing) : Type 0 where
   pub head : SoundHead (t .head)
   pub few-rows : t .rows ≤ most-rows
   pub table : length (t .table) ≡ most-rows
   pub row : (k : ℕ) → k < t .rows → SoundRow (t .head) (getD (t .table) k noRow)
+  -- the rows of a Moore machine say nothing of the outputs
+  pub plain : t .head .moore ≡ true → (k : ℕ) → k < t .rows → getD (t .table) k noRow .outputs ≡ noPattern
   pub few-dichotomies : t .dichotomies ≤ most-dichotomies
   pub asked : length (t .asked) ≡ most-dichotomies
   pub dichotomy : (k : ℕ) → k < t .dichotomies → SoundBlocks (t .head .states) (getD (t .asked) k noRequirement)
+  pub said : length (t .said) ≡ most-states
+  pub state : (s : ℕ) → SoundPattern (t .head .outputs) (getD (t .said) s noPattern)
 
 -- the rows of a sound listing
 pub rows-length : (t : Listing) → Sound t → length (rowsOf t) ≡ t .rows
@@ -55,6 +63,11 @@ goes-same a b e = cc
 pub stops-not : (f : Refusal) (u : Listing) → stops f ≡ goes u → ⊥
 stops-not f u e = let z : _≡_ {A = ℕ} 0 1 = cc in omega arith
 
+pub none-said : (n k : ℕ) → getD (replicate n noPattern) k noPattern ≡ noPattern
+none-said zero k = refl
+none-said (suc n) zero = refl
+none-said (suc n) (suc k) = none-said n k
+
 with-head : (h : Head) → SoundHead h → Sound (withHead h blank)
 unfolding blank
 with-head h s = record {
@@ -62,9 +75,12 @@ with-head h s = record {
   few-rows = omega arith;
   table = length-replicate most-rows noRow;
   row = λ k l. absurd (omega arith);
+  plain = λ m k l. absurd (omega arith);
   few-dichotomies = omega arith;
   asked = length-replicate most-dichotomies noRequirement;
   dichotomy = λ k l. absurd (omega arith);
+  said = length-replicate most-states noPattern;
+  state = λ k. rw (none-said most-states k) (no-pattern (h .outputs));
 }
 
 -- one more entry in the first places of a table
@@ -76,15 +92,18 @@ grown P l n a d h p f k q = go (ℕ-discrete k n)
     go (yes e) = rw (e, getD-set-same l n a d h) p
     go (no o) = rw (getD-set-other l n k a d o) (f k (omega arith))
 
-with-row : (t : Listing) (r : Row) → Sound t → (t .rows < most-rows) × SoundRow (t .head) r → Sound (withRow r t)
-with-row t r s q = record {
+with-row : (t : Listing) (k : ℕ) (r : Row) → Sound t → ReadRow (t .head) (t .rows) k r → Sound (withRow r t)
+with-row t k r s q = record {
   head = s .head;
-  few-rows = omega (arith, q .0);
+  few-rows = omega (arith, q .room);
   table = length-set (t .table) (t .rows) r ∙ s .table;
-  row = grown (SoundRow (t .head)) (t .table) (t .rows) r noRow (omega (arith, q .0, s .table)) (q .1) (s .row);
+  row = grown (SoundRow (t .head)) (t .table) (t .rows) r noRow (omega (arith, q .room, s .table)) (q .sound) (s .row);
+  plain = λ m. grown (λ (r : Row). r .outputs ≡ noPattern) (t .table) (t .rows) r noRow (omega (arith, q .room, s .table)) (q .plain m) (s .plain m);
   few-dichotomies = s .few-dichotomies;
   asked = s .asked;
   dichotomy = s .dichotomy;
+  said = s .said;
+  state = s .state;
 }
 
 with-dichotomy : (t : Listing) (d : Requirement) → Sound t → (t .dichotomies < most-dichotomies) × SoundBlocks (t .head .states) d → Sound (withDichotomy d t)
@@ -93,71 +112,113 @@ with-dichotomy t d s q = record {
   few-rows = s .few-rows;
   table = s .table;
   row = s .row;
+  plain = s .plain;
   few-dichotomies = omega (arith, q .0);
   asked = length-set (t .asked) (t .dichotomies) d ∙ s .asked;
   dichotomy = grown (SoundBlocks (t .head .states)) (t .asked) (t .dichotomies) d noRequirement (omega (arith, q .0, s .asked)) (q .1) (s .dichotomy);
+  said = s .said;
+  state = s .state;
 }
+
+with-outputs : (t : Listing) (n : ℕ) (p : Pattern) → Sound t → (n < t .head .states) × SoundPattern (t .head .outputs) p → Sound (withOutputs n p t)
+with-outputs t n p s q = record {
+  head = s .head;
+  few-rows = s .few-rows;
+  table = s .table;
+  row = s .row;
+  plain = s .plain;
+  few-dichotomies = s .few-dichotomies;
+  asked = s .asked;
+  dichotomy = s .dichotomy;
+  said = length-set (t .said) n p ∙ s .said;
+  state = λ k. one-state k (ℕ-discrete k n);
+}
+  where
+    one-state : (k : ℕ) → Dec (k ≡ n) → SoundPattern (t .head .outputs) (getD (set (t .said) n p) k noPattern)
+    one-state k (yes e) = rw (e, getD-set-same (t .said) n p noPattern (omega (arith, q .0, s .said, s .head .few-states))) (q .1)
+    one-state k (no o) = rw (getD-set-other (t .said) n k p noPattern o) (s .state k)
 
 -- ---- the lines
 
-first-sound : (m : Mark) (l : List ℕ) (u : Listing) → firstLine m blank l ≡ goes u → Sound u
-unfolding firstLine
-first-sound Mc l u e = on (headLine l) refl e
-  where
-    on : (x : HeadLine) → headLine l ≡ x → onHead x blank ≡ goes u → Sound u
-    on (HeadLine.Read h) q e = subst Sound (goes-same _ _ e) (with-head h (head-sound l h q))
-    on (HeadLine.Refused f) q e = absurd (stops-not f u e)
-first-sound Pt l u e = absurd (stops-not Place u e)
-first-sound Di l u e = absurd (stops-not Place u e)
-first-sound En l u e = absurd (stops-not Place u e)
-first-sound Unknown l u e = absurd (stops-not Place u e)
+-- a line that goes on stands in its place
+pub step-placed : (k : ℕ) (t u : Listing) (l : List ℕ) → lineStep k t l ≡ goes u
+    → (placed (markIs (markOf l)) k (t .head) (t .given) l ≡ true) × (lineDoes (markIs (markOf l)) k t l ≡ goes u)
+unfolding lineStep
+step-placed k t u l e = chose-first (placed (markIs (markOf l)) k (t .head) (t .given) l) e (stops-not Place u)
 
-later-sound : (m : Mark) (k : ℕ) (t : Listing) (l : List ℕ) (u : Listing) → Sound t → laterLine m k t l ≡ goes u → Sound u
-unfolding laterLine
-later-sound Mc k t l u s e = absurd (stops-not Place u e)
-later-sound Pt k t l u s e = on (rowLine (t .head) (t .rows) k l) refl e
+step-ends : (k : ℕ) (t : Listing) (l : List ℕ) → lineStep k t l ≡ ends
+    → (placed (markIs (markOf l)) k (t .head) (t .given) l ≡ true) × (lineDoes (markIs (markOf l)) k t l ≡ ends)
+unfolding lineStep
+step-ends k t l e = chose-first (placed (markIs (markOf l)) k (t .head) (t .given) l) e (λ q. let z : _≡_ {A = ℕ} 0 1 = cc in omega arith)
+
+-- of a head that is read
+head-on : (m : Bool) (l : List ℕ) (u : Listing) → onHead (headLine m l) blank ≡ goes u → Sound u
+head-on m l u e = on (headLine m l) refl e
   where
-    on : (x : RowLine) → rowLine (t .head) (t .rows) k l ≡ x → onRow x t ≡ goes u → Sound u
-    on (RowLine.Read r) q e = subst Sound (goes-same _ _ e) (with-row t r s (row-sound (t .head) (t .rows) k l r q))
-    on (RowLine.Refused f) q e = absurd (stops-not f u e)
-later-sound Di k t l u s e = on (dichotomyLine (t .head) (t .dichotomies) l) refl e
-  where
-    on : (x : DichotomyLine) → dichotomyLine (t .head) (t .dichotomies) l ≡ x → onDichotomy x t ≡ goes u → Sound u
-    on (DichotomyLine.Read d) q e = subst Sound (goes-same _ _ e) (with-dichotomy t d s (dichotomy-sound (t .head) (t .dichotomies) l d q))
-    on (DichotomyLine.Refused f) q e = absurd (stops-not f u e)
-later-sound En k t l u s e = on (endLine l) e
-  where
-    on : (x : EndLine) → onEnd x ≡ goes u → Sound u
-    on EndLine.Read e = absurd (let z : _≡_ {A = ℕ} 0 1 = cc in omega arith)
-    on (EndLine.Refused f) e = absurd (stops-not f u e)
-later-sound Unknown k t l u s e = absurd (stops-not BadLine u e)
+    on : (x : HeadLine) → headLine m l ≡ x → onHead x blank ≡ goes u → Sound u
+    on (HeadLine.Read h) q e = subst Sound (goes-same _ _ e) (with-head h (head-sound m l h q))
+    on (HeadLine.Refused f) q e = absurd (stops-not f u e)
+
+first-sound : (m : Mark) (h : Head) (given : ℕ) (l : List ℕ) (u : Listing) → placed m 1 h given l ≡ true → lineDoes m 1 blank l ≡ goes u → Sound u
+unfolding placed lineDoes
+first-sound Mc h given l u p e = head-on false l u e
+first-sound Mo h given l u p e = head-on true l u e
+first-sound Pt h given l u p e = absurd (false≢true p)
+first-sound Di h given l u p e = absurd (false≢true p)
+first-sound Ou h given l u p e = absurd (false≢true p)
+first-sound En h given l u p e = absurd (false≢true p)
+first-sound Unknown h given l u p e = absurd (false≢true p)
 
 -- line 1 does not end a listing
-pub first-goes-on : (m : Mark) (l : List ℕ) → firstLine m blank l ≡ ends → ⊥
-unfolding firstLine
-first-goes-on Mc l e = on (headLine l) e
+first-goes-on : (m : Mark) (h : Head) (given : ℕ) (l : List ℕ) → placed m 1 h given l ≡ true → lineDoes m 1 blank l ≡ ends → ⊥
+unfolding placed lineDoes
+first-goes-on Mc h given l p e = on (headLine false l) e
   where
     on : (x : HeadLine) → onHead x blank ≡ ends → ⊥
     on (HeadLine.Read h) e = let z : _≡_ {A = ℕ} 0 1 = cc in omega arith
     on (HeadLine.Refused f) e = let z : _≡_ {A = ℕ} 0 1 = cc in omega arith
-first-goes-on Pt l e = let z : _≡_ {A = ℕ} 0 1 = cc in omega arith
-first-goes-on Di l e = let z : _≡_ {A = ℕ} 0 1 = cc in omega arith
-first-goes-on En l e = let z : _≡_ {A = ℕ} 0 1 = cc in omega arith
-first-goes-on Unknown l e = let z : _≡_ {A = ℕ} 0 1 = cc in omega arith
+first-goes-on Mo h given l p e = on (headLine true l) e
+  where
+    on : (x : HeadLine) → onHead x blank ≡ ends → ⊥
+    on (HeadLine.Read h) e = let z : _≡_ {A = ℕ} 0 1 = cc in omega arith
+    on (HeadLine.Refused f) e = let z : _≡_ {A = ℕ} 0 1 = cc in omega arith
+first-goes-on Pt h given l p e = absurd (false≢true p)
+first-goes-on Di h given l p e = absurd (false≢true p)
+first-goes-on Ou h given l p e = absurd (false≢true p)
+first-goes-on En h given l p e = absurd (false≢true p)
+first-goes-on Unknown h given l p e = absurd (false≢true p)
 
-pub line-first : (t : Listing) (l : List ℕ) → lineStep 1 t l ≡ firstLine (markIs (markOf l)) t l
-unfolding lineStep
-line-first t l = refl
-
-pub line-later : (k : ℕ) (t : Listing) (l : List ℕ) → 2 ≤ k → lineStep k t l ≡ laterLine (markIs (markOf l)) k t l
-unfolding lineStep
-line-later k t l h = rw (ne-eqb k 1 (λ e. omega arith))
+later-sound : (m : Mark) (k : ℕ) (t : Listing) (l : List ℕ) (u : Listing) → 2 ≤ k → Sound t → placed m k (t .head) (t .given) l ≡ true → lineDoes m k t l ≡ goes u → Sound u
+unfolding placed lineDoes
+later-sound Mc k t l u h s p e = absurd (omega (arith, eqb-true k 1 p))
+later-sound Mo k t l u h s p e = absurd (omega (arith, eqb-true k 1 p))
+later-sound Pt k t l u h s p e = on (rowLine (t .head) (t .rows) k l) refl e
+  where
+    on : (x : RowLine) → rowLine (t .head) (t .rows) k l ≡ x → onRow x t ≡ goes u → Sound u
+    on (RowLine.Read r) q e = subst Sound (goes-same _ _ e) (with-row t k r s (row-read (t .head) (t .rows) k l r q))
+    on (RowLine.Refused f) q e = absurd (stops-not f u e)
+later-sound Di k t l u h s p e = on (dichotomyLine (t .head) (t .dichotomies) l) refl e
+  where
+    on : (x : DichotomyLine) → dichotomyLine (t .head) (t .dichotomies) l ≡ x → onDichotomy x t ≡ goes u → Sound u
+    on (DichotomyLine.Read d) q e = subst Sound (goes-same _ _ e) (with-dichotomy t d s (dichotomy-sound (t .head) (t .dichotomies) l d q))
+    on (DichotomyLine.Refused f) q e = absurd (stops-not f u e)
+later-sound Ou k t l u h s p e = on (outputsLine (t .head) l) refl e
+  where
+    on : (x : OutputsLine) → outputsLine (t .head) l ≡ x → onOutputs x t ≡ goes u → Sound u
+    on (OutputsLine.Read n p) q e = subst Sound (goes-same _ _ e) (with-outputs t (n .0) p s (outputs-sound (t .head) l n p q))
+    on (OutputsLine.Refused f) q e = absurd (stops-not f u e)
+later-sound En k t l u h s p e = on (endLine l) e
+  where
+    on : (x : EndLine) → onEnd x ≡ goes u → Sound u
+    on EndLine.Read e = absurd (let z : _≡_ {A = ℕ} 0 1 = cc in omega arith)
+    on (EndLine.Refused f) e = absurd (stops-not f u e)
+later-sound Unknown k t l u h s p e = absurd (stops-not BadLine u e)
 
 -- ---- the whole
 
--- a reading that is accepted gives a sound listing
+-- a reading that is accepted gives a sound listing, in which under `MO` each state has its outputs
 abbrev Good : Reading → Type 0
-Good r = r .verdict ≡ Verdict.Accepted → Sound (r .listing)
+Good r = r .verdict ≡ Verdict.Accepted → Sound (r .listing) × (complete (r .listing .head) (r .listing .given) ≡ true)
 
 refused-good : (f : Refusal) (k : ℕ) → Good (refused f k)
 unfolding refused
@@ -165,16 +226,17 @@ refused-good f k e = absurd (let z : _≡_ {A = ℕ} 0 1 = cc in omega arith)
 
 ended-good : (k : ℕ) (t : Listing) (rest : List (List ℕ)) → Sound t → Good (ended k t rest)
 unfolding ended
-ended-good k t rest s = go (nothing rest)
+ended-good k t rest s = go (nothing rest) (complete (t .head) (t .given)) refl
   where
-    go : (b : Bool) → Good (cond b (accepted t) (refused Place (k + 1)))
-    go true = λ e. s
-    go false = refused-good Place (k + 1)
+    go : (b c : Bool) → complete (t .head) (t .given) ≡ c → Good (cond b (cond c (accepted t) (refused NoOutputs k)) (refused Place (k + 1)))
+    go true true q = λ e. (s, q)
+    go true false q = refused-good NoOutputs k
+    go false c q = refused-good Place (k + 1)
 
-unended-good : (k : ℕ) (l : List ℕ) → Good (unended k l)
+unended-good : (k : ℕ) (h : Head) (given : ℕ) (l : List ℕ) → Good (unended k h given l)
 unfolding unended
-unended-good k [] = refused-good Place k
-unended-good k (x ∷ xs) = go (placed k (markIs (markOf (x ∷ xs))))
+unended-good k h given [] = refused-good Place k
+unended-good k h given (x ∷ xs) = go (placed (markIs (markOf (x ∷ xs))) k h given (x ∷ xs))
   where
     go : (b : Bool) → Good (cond b (refused BadLine k) (refused Place k))
     go true = refused-good BadLine k
@@ -192,33 +254,33 @@ pub reads-none : (k : ℕ) (t : Listing) → readLines k t [] ≡ refused Place 
 unfolding readLines
 reads-none k t = refl
 
-pub reads-last : (k : ℕ) (t : Listing) (l : List ℕ) → readLines k t (l ∷ []) ≡ unended k l
+pub reads-last : (k : ℕ) (t : Listing) (l : List ℕ) → readLines k t (l ∷ []) ≡ unended k (t .head) (t .given) l
 unfolding readLines
 reads-last k t l = refl
 
 later-good : (k : ℕ) (t : Listing) (ls : List (List ℕ)) → 2 ≤ k → Sound t → Good (readLines k t ls)
 unfolding after
 later-good k t [] h s = rw (reads-none k t) (refused-good Place k)
-later-good k t (l ∷ []) h s = rw (reads-last k t l) (unended-good k l)
+later-good k t (l ∷ []) h s = rw (reads-last k t l) (unended-good k (t .head) (t .given) l)
 later-good k t (l ∷ (m ∷ ms)) h s = rw (reads-on k t l m ms) (go (lineStep k t l) refl (λ u. later-good (k + 1) u (m ∷ ms) (omega arith)))
   where
     go : (x : Step) → lineStep k t l ≡ x → ((u : Listing) → Sound u → Good (readLines (k + 1) u (m ∷ ms))) → Good (after k t (m ∷ ms) x)
-    go (goes u) e f = f u (later-sound (markIs (markOf l)) k t l u s (sym (line-later k t l h) ∙ e))
+    go (goes u) e f = let p = step-placed k t u l e in f u (later-sound (markIs (markOf l)) k t l u h s (p .0) (p .1))
     go ends e f = ended-good k t (m ∷ ms) s
     go (stops r) e f = refused-good r k
 
 first-good : (ls : List (List ℕ)) → Good (readLines 1 blank ls)
 unfolding after
 first-good [] = rw (reads-none 1 blank) (refused-good Place 1)
-first-good (l ∷ []) = rw (reads-last 1 blank l) (unended-good 1 l)
+first-good (l ∷ []) = rw (reads-last 1 blank l) (unended-good 1 (blank .head) (blank .given) l)
 first-good (l ∷ (m ∷ ms)) = rw (reads-on 1 blank l m ms) (go (lineStep 1 blank l) refl)
   where
     go : (x : Step) → lineStep 1 blank l ≡ x → Good (after 1 blank (m ∷ ms) x)
-    go (goes u) e = later-good 2 u (m ∷ ms) (omega arith) (first-sound (markIs (markOf l)) l u (sym (line-first blank l) ∙ e))
-    go ends e = absurd (first-goes-on (markIs (markOf l)) l (sym (line-first blank l) ∙ e))
+    go (goes u) e = let p = step-placed 1 blank u l e in later-good 2 u (m ∷ ms) (omega arith) (first-sound (markIs (markOf l)) (blank .head) (blank .given) l u (p .0) (p .1))
+    go ends e = let p = step-ends 1 blank l e in absurd (first-goes-on (markIs (markOf l)) (blank .head) (blank .given) l (p .0) (p .1))
     go (stops r) e = refused-good r 1
 
-judged-good : (v : Verdict) (t : Listing) → Sound t → Good (judged v t)
+judged-good : (v : Verdict) (t : Listing) → Sound t × (complete (t .head) (t .given) ≡ true) → Good (judged v t)
 unfolding refused
 judged-good Verdict.Accepted t s = λ e. s
 judged-good (Verdict.Refused r k) t s = refused-good r k
@@ -235,10 +297,16 @@ checked-good r g = go (r .verdict) refl
     go (Verdict.Refused f k) e = refused-good f k
 
 -- whatever the bytes
-pub accepted-sound : (s : List ℕ) → reading s .verdict ≡ Verdict.Accepted → Sound (reading s .listing)
+accepted-good : (s : List ℕ) → Good (reading s)
 unfolding reading
-accepted-sound s = go (leb (length s) most-bytes)
+accepted-good s = go (leb (length s) most-bytes)
   where
     go : (b : Bool) → Good (cond b (checked (readLines 1 blank (linesOf s))) (refused Limit 0))
     go true = checked-good (readLines 1 blank (linesOf s)) (first-good (linesOf s))
     go false = refused-good Limit 0
+
+pub accepted-sound : (s : List ℕ) → reading s .verdict ≡ Verdict.Accepted → Sound (reading s .listing)
+accepted-sound s e = accepted-good s e .0
+
+pub accepted-complete : (s : List ℕ) → reading s .verdict ≡ Verdict.Accepted → complete (reading s .listing .head) (reading s .listing .given) ≡ true
+accepted-complete s e = accepted-good s e .1

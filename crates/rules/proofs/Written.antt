@@ -1,23 +1,26 @@
--- The cover that is written: its lines; that each row's line fires where the row fires and carries the row's next state; and that the cover agrees with the listing.
-use mathlib.Core.Path.{_≡_, refl, sym, ap, _∙_}
-use mathlib.Core.Logic.{_⊎_}
-use mathlib.Core.Bool.{true, false}
+-- The cover that is written: its lines; that each row's line fires where the row fires and carries the row's next state; that rows left out say nothing; and that the
+-- cover agrees with the listing.
+use mathlib.Core.Path.{_≡_, refl, sym, subst, ap, _∙_}
+use mathlib.Core.Logic.{_⊎_, inl, inr}
+use mathlib.Core.Bool.{Bool, true, false, _&&_, not}
 use mathlib.Core.List.{List, [], _∷_, _++_, map}
 use Prim.Native.Nat.{ℕ, zero, suc, _+_, _<_}
 use native.Mathlib.Omega.{arith}
-use lib.Dec.{leb}
-use lib.ListN.{length, getD, replicate}
+use lib.Dec.{leb, eqb}
+use lib.ListN.{length, take, getD, replicate}
+use lib.Seq.{length-take-le}
 use borrow.Author.Tests.{leb-false}
-use Rattle.sets.specs.Sets.{only, statesFrom}
-use Rattle.rules.specs.Text.{bytes, one, linesOf, fieldAt}
-use Rattle.rules.specs.Listing.{noRow, rowsOf, conflict, reading}
+use Rattle.sets.specs.Sets.{has, only, statesFrom}
+use Rattle.rules.specs.Text.{bytes, nought, one, dash, linesOf, fieldAt}
+use Rattle.rules.specs.Listing.{noPattern, noRow, rowsOf, stateRow, allRows, complete, conflict, reading}
 use Rattle.rules.specs.Requirements.{pairsAndGroups}
 use Rattle.rules.specs.Code.{Code, Coding, coded, uncoded, coding, codeOf, unmetFrom}
 use Rattle.rules.specs.Report.{digits}
-use Rattle.rules.specs.Cover.{outputAt, nextCode, coverRow, cover, fires, vector, lineFires}
-use Rattle.rules.specs.Meaning.{free, outputMeans, coverSays, agreesAt}
+use Rattle.rules.specs.Cover.{outputAt, nextCode, coverRow, saysNothing, isLeftOut, printedRows, keepingAll, cover, fires, vector, lineFires}
+use Rattle.rules.specs.Meaning.{free, saidMeans, outputMeans, coverSays, agreesAt}
 use Rattle.rules.specs.Answers.{Reply, says, refuses, coverOf, coverReply}
 use Rattle.rules.specs.declared.Head.{Head}
+use Rattle.rules.specs.declared.Pattern.{Pattern}
 use Rattle.rules.specs.declared.Row.{Row}
 use Rattle.rules.specs.declared.Listing.{Listing}
 use Rattle.rules.specs.declared.Reading.{Reading}
@@ -30,11 +33,18 @@ use Rattle.rules.proofs.Unmet.{mem-at}
 use Rattle.rules.proofs.Faces.{Distinct, GroupMet}
 use Rattle.rules.proofs.Fires.{outputSide, cover-fields, row-fires, next-code, no-next-code}
 use Rattle.rules.proofs.Granted.{distinct-codes, met-groups}
-use Rattle.rules.proofs.SoundLines.{SoundRow}
-use Rattle.rules.proofs.Sound.{Sound, rows-length, row-of, accepted-sound}
+use Rattle.rules.proofs.SoundLines.{FitRow}
+use Rattle.rules.proofs.Sound.{Sound, accepted-sound, accepted-complete}
+use Rattle.rules.proofs.AllRows.{all-fit, all-apart, all-met-groups}
+use Rattle.rules.proofs.Printed.{Stands, printed-place, printed-all}
 use Rattle.rules.proofs.CoverLines.{coverBodies, cover-lines}
 use Rattle.rules.proofs.Sharing.{accepted-apart}
-use Rattle.rules.proofs.Agreeing.{agrees, free-quiet}
+use Rattle.rules.proofs.Agreeing.{as-whole, agrees, free-quiet}
+use Rattle.rules.proofs.Moore.{own-state, moore-means, moore-ones, moore-dashes}
+
+-- Of output j the firing lines say what the outputs p of an `OU` line do: 1 exactly where they say 1, and dash exactly where they say dash.
+abbrev pub SaysAs : List (List ℕ) → List ℕ → ℕ → Pattern → ℕ → Type 0
+SaysAs ls ds place p j = (coverSays ls ds place one ≡ eqb (has (p .ones) j) 1) × (coverSays ls ds place dash ≡ eqb (has (p .dashes) j) 1)
 
 -- l is the line of the row r in a cover
 pub record LineOf (h : Head) (bits : List ℕ) (rs : List Row) (r : Row) (l : List ℕ) : Type 0 where
@@ -50,24 +60,38 @@ pub record LineOf (h : Head) (bits : List ℕ) (rs : List Row) (r : Row) (l : Li
 pub record CoverOf (t : Listing) (bits : List ℕ) (text : List ℕ) : Type 0 where
   pub distinct : Distinct (t .head .states) bits
   pub lines : linesOf text ≡ coverBodies t bits
-  -- row k stands on line 4 + k, from 0
-  pub rows : (k : ℕ) → k < t .rows → LineOf (t .head) bits (rowsOf t) (getD (rowsOf t) k noRow) (getD (linesOf text) (4 + k) [])
+  -- row k has its line unless it is left out: from 0, behind the first four and those of the rows before it
+  pub rows : (k : ℕ) → k < length (allRows t) → isLeftOut (t .head) bits (getD (allRows t) k noRow) ≡ false
+      → LineOf (t .head) bits (allRows t) (getD (allRows t) k noRow) (getD (linesOf text) (4 + length (printedRows (t .head) bits (take k (allRows t)))) [])
+  -- with the fifth number 1 every row has its line, row k on line 4 + k
+  pub kept : t .head .keeps ≡ true → (k : ℕ) → k < length (allRows t) → LineOf (t .head) bits (allRows t) (getD (allRows t) k noRow) (getD (linesOf text) (4 + k) [])
+  -- what is left out says nothing: at every input vector and every state, of each bit of the next code and each output, the firing lines say 1, or dash,
+  -- exactly where those of the whole cover do
+  pub whole : (x s : ℕ) → s < t .head .states → (place : ℕ) → place < length bits + t .head .outputs → (c : ℕ) → (c ≡ one) ⊎ (c ≡ dash)
+      → coverSays (linesOf text) (vector (t .head .inputs) x ++ codeOf bits s) place c ≡ coverSays (linesOf (cover (keepingAll t) bits)) (vector (t .head .inputs) x ++ codeOf bits s) place c
   -- at every input vector and every state, each bit of the next code and each output means in the cover what it means in the listing
   pub agrees : (x s : ℕ) → s < t .head .states → agreesAt t bits (linesOf text) x s ≡ true
   -- and of a free output, of which a cover may say anything, it says no 1
   pub quiet : (x s j : ℕ) → s < t .head .states → j < t .head .outputs → outputMeans t x s j ≡ free
       → coverSays (linesOf text) (vector (t .head .inputs) x ++ codeOf bits s) (length bits + j) one ≡ false
+  -- Under `MO` the outputs in each state are those of its `OU` line whatever the input: so the listing means it, and so the firing lines say it. A row that a state
+  -- adds fires in that state alone.
+  pub outputs-mean : t .head .moore ≡ true → (x s : ℕ) → s < t .head .states → (j : ℕ) → outputMeans t x s j ≡ saidMeans (getD (t .said) s noPattern) j
+  pub outputs-said : t .head .moore ≡ true → (x s : ℕ) → s < t .head .states → (j : ℕ) → j < t .head .outputs
+      → SaysAs (linesOf text) (vector (t .head .inputs) x ++ codeOf bits s) (length bits + j) (getD (t .said) s noPattern) j
+  pub own-state : (u x s : ℕ) → fires (t .head) (stateRow u (getD (t .said) u noPattern)) x s ≡ eqb u s
 
--- the listing is accepted and coded, and text is its cover
+-- the listing is accepted and coded, under `MO` with an `OU` line for each state, and text is its cover
 pub record Written (r : Reading) (text : List ℕ) : Type 0 where
   pub accepted : r .verdict ≡ Verdict.Accepted
+  pub each-state : complete (r .listing .head) (r .listing .given) ≡ true
   pub code : Code
   pub built : coding (r .listing) ≡ coded code
   pub covers : CoverOf (r .listing) (code .bits) text
 
 -- ---- a line
 
-line-of : (h : Head) (bits : List ℕ) (rs : List Row) (r : Row) → SoundRow h r → Distinct (h .states) bits → GroupMet (h .states) bits (r .group)
+line-of : (h : Head) (bits : List ℕ) (rs : List Row) (r : Row) → FitRow h r → Distinct (h .states) bits → GroupMet (h .states) bits (r .group)
     → LineOf h bits rs r (coverRow h bits rs r)
 line-of h bits rs r s distinct met =
     let m = some-member (h .states) (r .group) (s .group) (s .some) in
@@ -91,15 +115,39 @@ at-map f [] rest k d e h = absurd (omega arith)
 at-map f (x ∷ xs) rest zero d e h = refl
 at-map f (x ∷ xs) rest (suc k) d e h = at-map f xs rest k d e (omega arith)
 
-row-line : (t : Listing) (bits : List ℕ) (k : ℕ) → k < length (rowsOf t)
-    → getD (coverBodies t bits) (4 + k) [] ≡ coverRow (t .head) bits (rowsOf t) (getD (rowsOf t) k noRow)
-row-line t bits k h = ap (λ (j : ℕ). getD (coverBodies t bits) j []) four ∙ at-map (coverRow (t .head) bits (rowsOf t)) (rowsOf t) (bytes ".e" ∷ ([] ∷ [])) k noRow [] h
+row-line : (t : Listing) (bits : List ℕ) (k : ℕ) → k < length (allRows t) → isLeftOut (t .head) bits (getD (allRows t) k noRow) ≡ false
+    → getD (coverBodies t bits) (4 + length (printedRows (t .head) bits (take k (allRows t)))) [] ≡ coverRow (t .head) bits (allRows t) (getD (allRows t) k noRow)
+row-line t bits k h in-it =
+    ap (λ (j : ℕ). getD (coverBodies t bits) j []) four
+    ∙ at-map (coverRow (t .head) bits (allRows t)) (printedRows (t .head) bits (allRows t)) (bytes ".e" ∷ ([] ∷ [])) i noRow [] (stands .0)
+    ∙ ap (coverRow (t .head) bits (allRows t)) (stands .1)
   where
-    four : 4 + k ≡ suc (suc (suc (suc k)))
+    i : ℕ
+    i = length (printedRows (t .head) bits (take k (allRows t)))
+
+    stands : Stands (t .head) bits (allRows t) i (getD (allRows t) k noRow)
+    stands = printed-place (t .head) bits (allRows t) k h in-it
+
+    four : 4 + i ≡ suc (suc (suc (suc i)))
     four = omega arith
 
+not-out : (h : Head) (bits : List ℕ) (r : Row) → h .keeps ≡ true → isLeftOut h bits r ≡ false
+unfolding isLeftOut
+not-out h bits r k = ap (λ (b : Bool). not b && saysNothing bits r) k
+
 cover-of : (t : Listing) (bits text : List ℕ) → Sound t → conflict (rowsOf t) ≡ Verdict.Accepted → unmetFrom 0 (t .head .states) bits (pairsAndGroups t) ≡ [] → cover t bits ≡ text → CoverOf t bits text
-cover-of t bits text sound apart none e = record { distinct = distinct; lines = lines; rows = rows; agrees = agree; quiet = quiet }
+cover-of t bits text sound apart none e = record {
+  distinct = distinct;
+  lines = lines;
+  rows = rows;
+  kept = kept;
+  whole = whole;
+  agrees = agree;
+  quiet = quiet;
+  outputs-mean = λ m x s l j. moore-means t sound m x s l j;
+  outputs-said = said;
+  own-state = λ u. own-state (t .head) (sound .head .few-inputs) u (getD (t .said) u noPattern);
+}
   where
     distinct : Distinct (t .head .states) bits
     distinct = distinct-codes t bits none
@@ -107,22 +155,40 @@ cover-of t bits text sound apart none e = record { distinct = distinct; lines = 
     lines : linesOf text ≡ coverBodies t bits
     lines = ap linesOf (sym e) ∙ cover-lines t bits
 
-    row : (k : ℕ) → k < length (rowsOf t) → LineOf (t .head) bits (rowsOf t) (getD (rowsOf t) k noRow) (coverRow (t .head) bits (rowsOf t) (getD (rowsOf t) k noRow))
+    row : (k : ℕ) → k < length (allRows t) → LineOf (t .head) bits (allRows t) (getD (allRows t) k noRow) (coverRow (t .head) bits (allRows t) (getD (allRows t) k noRow))
     row k l =
-        line-of (t .head) bits (rowsOf t) (getD (rowsOf t) k noRow) (row-of t sound k (omega (arith, rows-length t sound))) distinct
-        (met-groups t bits none (getD (rowsOf t) k noRow) (mem-at (rowsOf t) k noRow l))
+        line-of (t .head) bits (allRows t) (getD (allRows t) k noRow) (all-fit t sound k l) distinct
+        (all-met-groups t bits (λ k q. met-groups t bits none (getD (rowsOf t) k noRow) (mem-at (rowsOf t) k noRow q)) k l)
 
-    rows : (k : ℕ) → k < t .rows → LineOf (t .head) bits (rowsOf t) (getD (rowsOf t) k noRow) (getD (linesOf text) (4 + k) [])
-    rows k h =
-        let l : k < length (rowsOf t) = omega (arith, rows-length t sound) in
-        rw (lines, row-line t bits k l) (row k l)
+    rows : (k : ℕ) → k < length (allRows t) → isLeftOut (t .head) bits (getD (allRows t) k noRow) ≡ false
+        → LineOf (t .head) bits (allRows t) (getD (allRows t) k noRow) (getD (linesOf text) (4 + length (printedRows (t .head) bits (take k (allRows t)))) [])
+    rows k h in-it = rw (lines, row-line t bits k h in-it) (row k h)
+
+    kept : t .head .keeps ≡ true → (k : ℕ) → k < length (allRows t) → LineOf (t .head) bits (allRows t) (getD (allRows t) k noRow) (getD (linesOf text) (4 + k) [])
+    kept e k h =
+        let before : length (printedRows (t .head) bits (take k (allRows t))) ≡ k = ap (λ (rs : List Row). length rs) (printed-all (t .head) bits e (take k (allRows t))) ∙ length-take-le k (allRows t) (omega arith) in
+        subst (λ (i : ℕ). LineOf (t .head) bits (allRows t) (getD (allRows t) k noRow) (getD (linesOf text) (4 + i) [])) before
+        (rows k h (not-out (t .head) bits (getD (allRows t) k noRow) e))
+
+    whole : (x s : ℕ) → s < t .head .states → (place : ℕ) → place < length bits + t .head .outputs → (c : ℕ) → (c ≡ one) ⊎ (c ≡ dash)
+        → coverSays (linesOf text) (vector (t .head .inputs) x ++ codeOf bits s) place c ≡ coverSays (linesOf (cover (keepingAll t) bits)) (vector (t .head .inputs) x ++ codeOf bits s) place c
+    whole x s l place within c which = rw (lines, cover-lines (keepingAll t) bits) (as-whole t bits x s (sound .head .some-inputs) (λ k h. row k h .fires-as x s l) place c within (other which))
+      where
+        other : (c ≡ one) ⊎ (c ≡ dash) → eqb nought c ≡ false
+        other (inl e) = ap (eqb nought) e
+        other (inr e) = ap (eqb nought) e
 
     agree : (x s : ℕ) → s < t .head .states → agreesAt t bits (linesOf text) x s ≡ true
-    agree x s l = rw lines (agrees t bits x s sound apart (λ k h. row k h .fires-as x s l))
+    agree x s l = rw lines (agrees t bits x s sound (all-apart t apart) (λ k h. row k h .fires-as x s l))
 
     quiet : (x s j : ℕ) → s < t .head .states → j < t .head .outputs → outputMeans t x s j ≡ free
         → coverSays (linesOf text) (vector (t .head .inputs) x ++ codeOf bits s) (length bits + j) one ≡ false
-    quiet x s j l h e = rw lines (free-quiet t bits x s sound apart (λ k h. row k h .fires-as x s l) j h e)
+    quiet x s j l h e = rw lines (free-quiet t bits x s sound (all-apart t apart) (λ k h. row k h .fires-as x s l) j h e)
+
+    said : t .head .moore ≡ true → (x s : ℕ) → s < t .head .states → (j : ℕ) → j < t .head .outputs
+        → SaysAs (linesOf text) (vector (t .head .inputs) x ++ codeOf bits s) (length bits + j) (getD (t .said) s noPattern) j
+    said m x s l j h =
+        rw lines (moore-ones t sound m bits (all-apart t apart) x s l (λ k q. row k q .fires-as x s l) j h, moore-dashes t sound m bits (all-apart t apart) x s l (λ k q. row k q .fires-as x s l) j h)
 
 -- ---- the reply
 
@@ -156,14 +222,14 @@ of-coding t (uncoded f) text sound apart e = absurd (says-not f 0 text (sym (no-
 replied : Reading → Verdict → Reply
 replied r v = elim v [ Verdict.Accepted ↦ coverOf (r .listing) (coding (r .listing)) | Verdict.Refused f k ↦ refuses f k ]
 
-of-reading : (r : Reading) (text : List ℕ) → (r .verdict ≡ Verdict.Accepted → Sound (r .listing))
+of-reading : (r : Reading) (text : List ℕ) → (r .verdict ≡ Verdict.Accepted → Sound (r .listing)) → (r .verdict ≡ Verdict.Accepted → complete (r .listing .head) (r .listing .given) ≡ true)
     → (r .verdict ≡ Verdict.Accepted → conflict (rowsOf (r .listing)) ≡ Verdict.Accepted) → (v : Verdict) → r .verdict ≡ v
     → replied r v ≡ says text → Written r text
 unfolding replied
-of-reading r text sound apart Verdict.Accepted a e =
+of-reading r text sound all apart Verdict.Accepted a e =
     let w = of-coding (r .listing) (coding (r .listing)) text (sound a) (apart a) e in
-    record { accepted = a; code = w .0; built = w .1; covers = w .2 }
-of-reading r text sound apart (Verdict.Refused f k) a e = absurd (says-not f k text e)
+    record { accepted = a; each-state = all a; code = w .0; built = w .1; covers = w .2 }
+of-reading r text sound all apart (Verdict.Refused f k) a e = absurd (says-not f k text e)
 
 reply : (s : List ℕ) → coverReply s ≡ replied (reading s) (reading s .verdict)
 unfolding coverReply replied
@@ -171,4 +237,4 @@ reply s = refl
 
 -- whatever the bytes
 pub written : (s text : List ℕ) → coverReply s ≡ says text → Written (reading s) text
-written s text e = of-reading (reading s) text (accepted-sound s) (accepted-apart s) (reading s .verdict) refl (sym (reply s) ∙ e)
+written s text e = of-reading (reading s) text (accepted-sound s) (accepted-complete s) (accepted-apart s) (reading s .verdict) refl (sym (reply s) ∙ e)

@@ -1,4 +1,4 @@
--- 01, "Report and cover", and 02, request 02: the face of a group (002), the cover's bytes, and when a row fires in the listing and in the cover.
+-- 01, "Report and cover", and 02, requests 02 and 07: the face of a group (002), the rows that have a line, the cover's bytes, and when a row fires in the listing and in the cover.
 use mathlib.Core.Bool.{Bool, true, false, _&&_, _||_, not, cond}
 use mathlib.Core.List.{List, [], _∷_, _++_, map}
 use Prim.Native.Nat.{ℕ, _+_}
@@ -7,7 +7,7 @@ use lib.Dec.{eqb}
 use lib.Bits.{bitAnd}
 use Rattle.sets.specs.Sets.{has, every, statesFrom}
 use Rattle.rules.specs.Text.{bytes, digit, lf, space, dash, nought, one, decimal, fieldAt, split}
-use Rattle.rules.specs.Listing.{rowsOf, some, meets}
+use Rattle.rules.specs.Listing.{withHead, allRows, some, meets}
 use Rattle.rules.specs.Requirements.{wholly}
 use Rattle.rules.specs.Report.{digits, joinedLines}
 use Rattle.rules.specs.declared.Row.{Row}
@@ -60,19 +60,51 @@ coverRow h bits rs r =
     ++ (space ∷ (digits (nextCode bits (r .next))
     ++ map (outputAt rs r) (statesFrom 0 (h .outputs)))))
 
+-- ---- the rows that have a line
+
+-- digits that are all 0
+unfoldable pub zeros : List ℕ → Bool
+zeros [] = true
+zeros (d ∷ ds) = eqb d 0 && zeros ds
+
+-- a row says nothing: its next code is all zeros (it names no next state, or one whose code is all zeros, or there are no bits), and its outputs in the
+-- listing are all `0`
+unfoldable pub saysNothing : List ℕ → Row → Bool
+unfolding zeros
+saysNothing bits r = zeros (nextCode bits (r .next)) && (eqb (r .outputs .ones) 0 && eqb (r .outputs .dashes) 0)
+
+-- such a row is left out, unless every row is kept
+unfoldable pub isLeftOut : Head → List ℕ → Row → Bool
+unfolding saysNothing
+isLeftOut h bits r = not (h .keeps) && saysNothing bits r
+
+-- the others, in order
+unfoldable pub printedRows : Head → List ℕ → List Row → List Row
+unfolding isLeftOut
+printedRows h bits [] = []
+printedRows h bits (r ∷ rs) = elim (isLeftOut h bits r) [ true ↦ printedRows h bits rs | false ↦ r ∷ printedRows h bits rs ]
+
+-- the listing with the fifth number 1
+abbrev pub keepingAll : Listing → Listing
+keepingAll t =
+    withHead (record { states = t .head .states; inputs = t .head .inputs; outputs = t .head .outputs; width = t .head .width; keeps = true; moore = t .head .moore }) t
+
+-- ---- the cover
+
 -- a mark, and a number of the whole cover
 abbrev pub countedLine : List ℕ → ℕ → List ℕ
 countedLine mark v = mark ++ (decimal v ++ (lf ∷ []))
 
--- `.i` (i + bits), `.o` (bits + o), `.type fd`, `.p` (rows), a line per row in order, `.e`
+-- `.i` (i + bits), `.o` (bits + o), `.type fd`, `.p` (the rows printed), a line for each of them in order, `.e`
 unfoldable pub coverLines : Listing → List ℕ → List (List ℕ)
-unfolding coverRow decimal
+unfolding coverRow decimal printedRows allRows
 coverLines t bits =
+    let printed : List Row = printedRows (t .head) bits (allRows t) in
     countedLine (bytes ".i ") (t .head .inputs + length bits)
     ∷ (countedLine (bytes ".o ") (length bits + t .head .outputs)
     ∷ (bytes ".type fd\n"
-    ∷ (countedLine (bytes ".p ") (length (rowsOf t))
-    ∷ (map (λ r. coverRow (t .head) bits (rowsOf t) r ++ (lf ∷ [])) (rowsOf t) ++ (bytes ".e\n" ∷ [])))))
+    ∷ (countedLine (bytes ".p ") (length printed)
+    ∷ (map (λ r. coverRow (t .head) bits (allRows t) r ++ (lf ∷ [])) printed ++ (bytes ".e\n" ∷ [])))))
 
 unfoldable pub cover : Listing → List ℕ → List ℕ
 unfolding coverLines joinedLines

@@ -17,6 +17,10 @@ most-bits = 64
 abbrev pub most-rows : ℕ
 most-rows = 128
 
+-- the rows of a cover: those of a listing, and one for each state of a Moore machine
+abbrev pub most-lines : ℕ
+most-lines = 192
+
 abbrev pub most-dichotomies : ℕ
 most-dichotomies = 64
 

@@ -1,9 +1,9 @@
 -- 01, "The listing": what each line says, or its refusal. Within a line the order is 1, 2, 4, 5; its place, 3, is the listing's to judge.
 use mathlib.Core.Bool.{Bool, _&&_, cond}
-use mathlib.Core.List.{List}
+use mathlib.Core.List.{List, []}
 use Prim.Native.Nat.{ℕ}
 use lib.ListN.{length}
-use lib.Dec.{leb, eqb}
+use lib.Dec.{leb, ltb, eqb}
 use Rattle.sets.specs.Sets.{size}
 use Rattle.rules.specs.Limits.{most-states, most-inputs, most-outputs, most-bits, most-rows, most-dichotomies}
 use Rattle.rules.specs.Text.{nought, one, dash, plus, dot, split, fieldsOf, fieldAt, sized, setOf, numeralOf}
@@ -15,43 +15,52 @@ use Rattle.rules.specs.declared.Refusal.the-variants.{BadLine, Limit, Em
 use Rattle.rules.specs.declared.HeadLine.{HeadLine}
 use Rattle.rules.specs.declared.RowLine.{RowLine}
 use Rattle.rules.specs.declared.DichotomyLine.{DichotomyLine}
+use Rattle.rules.specs.declared.OutputsLine.{OutputsLine}
 use Rattle.rules.specs.declared.EndLine.{EndLine}
 
--- ---- `MC n i o w`
+-- ---- `MC n i o w`, or `MC n i o w k` (02, request 07); the same behind `MO` (02, request 13), which m says
 
--- states 1..64, inputs 1..16, outputs 1..32, width 0..64
-unfoldable pub headNumbers : ℕ → ℕ → ℕ → ℕ → HeadLine
-headNumbers n i o w =
-    cond (leb 1 n && leb n most-states && (leb 1 i && leb i most-inputs) && (leb 1 o && leb o most-outputs) && leb w most-bits)
-    (HeadLine.Read (record { states = n; inputs = i; outputs = o; width = w }))
+-- states 1..64, inputs 1..16, outputs 1..32, width 0..64; 0, or 1 that keeps every row in the cover
+unfoldable pub headNumbers : Bool → ℕ → ℕ → ℕ → ℕ → ℕ → HeadLine
+headNumbers m n i o w k =
+    cond (leb 1 n && leb n most-states && (leb 1 i && leb i most-inputs) && (leb 1 o && leb o most-outputs) && leb w most-bits && leb k 1)
+    (HeadLine.Read (record { states = n; inputs = i; outputs = o; width = w; keeps = eqb k 1; moore = m }))
     (HeadLine.Refused Limit)
 
-unfoldable pub headNumerals : Numeral → Numeral → Numeral → Numeral → HeadLine
+unfoldable pub headNumerals : Bool → Numeral → Numeral → Numeral → Numeral → Numeral → HeadLine
 unfolding headNumbers
-headNumerals (Is n) (Is i) (Is o) (Is w) = headNumbers n i o w
-headNumerals (Is n) (Is i) (Is o) Bad = HeadLine.Refused BadLine
-headNumerals (Is n) (Is i) Bad w = HeadLine.Refused BadLine
-headNumerals (Is n) Bad o w = HeadLine.Refused BadLine
-headNumerals Bad i o w = HeadLine.Refused BadLine
+headNumerals m (Is n) (Is i) (Is o) (Is w) (Is k) = headNumbers m n i o w k
+headNumerals m (Is n) (Is i) (Is o) (Is w) Bad = HeadLine.Refused BadLine
+headNumerals m (Is n) (Is i) (Is o) Bad k = HeadLine.Refused BadLine
+headNumerals m (Is n) (Is i) Bad w k = HeadLine.Refused BadLine
+headNumerals m (Is n) Bad o w k = HeadLine.Refused BadLine
+headNumerals m Bad i o w k = HeadLine.Refused BadLine
 
--- four numbers behind the mark
-unfoldable pub headLine : List ℕ → HeadLine
-unfolding split headNumerals numeralOf
-headLine l =
-    cond (eqb (length (fieldsOf l)) 5)
-    (headNumerals (numeralOf (fieldAt l 1)) (numeralOf (fieldAt l 2)) (numeralOf (fieldAt l 3)) (numeralOf (fieldAt l 4)))
+-- the fifth number, 0 where there are four
+unfoldable pub fifthOf : List ℕ → Numeral
+unfolding split numeralOf
+fifthOf l = cond (eqb (length (fieldsOf l)) 5) (Is 0) (numeralOf (fieldAt l 5))
+
+-- four numbers behind the mark, or five
+unfoldable pub headLine : Bool → List ℕ → HeadLine
+unfolding split headNumerals numeralOf fifthOf
+headLine m l =
+    cond (leb 5 (length (fieldsOf l)) && leb (length (fieldsOf l)) 6)
+    (headNumerals m (numeralOf (fieldAt l 1)) (numeralOf (fieldAt l 2)) (numeralOf (fieldAt l 3)) (numeralOf (fieldAt l 4)) (fifthOf l))
     (HeadLine.Refused BadLine)
 
--- ---- `PT input group next outputs`
+-- ---- `PT input group next outputs`, and under `MO` `PT input group next` (02, request 13)
 
--- input: i of `0 1 -`; group: n of `0 1`; next: n of `0 1`; outputs: o of `0 1 -`
-unfoldable pub rowFits : Head → List ℕ → List ℕ → List ℕ → List ℕ → Bool
+-- input: i of `0 1 -`; group: n of `0 1`; next: n of `0 1`
+unfoldable pub rowFits : Head → List ℕ → List ℕ → List ℕ → Bool
 unfolding sized
-rowFits h input group next outputs =
-    sized most-inputs (h .inputs) nought one dash input
-    && sized most-states (h .states) nought one one group
-    && sized most-states (h .states) nought one one next
-    && sized most-outputs (h .outputs) nought one dash outputs
+rowFits h input group next =
+    sized most-inputs (h .inputs) nought one dash input && sized most-states (h .states) nought one one group && sized most-states (h .states) nought one one next
+
+-- outputs: o of `0 1 -`
+unfoldable pub outputsFit : Head → List ℕ → Bool
+unfolding sized
+outputsFit h outputs = sized most-outputs (h .outputs) nought one dash outputs
 
 abbrev pub rowOf : ℕ → List ℕ → List ℕ → List ℕ → List ℕ → Row
 rowOf line input group next outputs = record {
@@ -72,12 +81,24 @@ rowChecked count row =
     (RowLine.Read row)))
 
 -- line number `line`, behind `count` rows
-unfoldable pub rowLine : Head → ℕ → ℕ → List ℕ → RowLine
-unfolding split setOf rowFits rowChecked
-rowLine h count line l =
-    cond (eqb (length (fieldsOf l)) 5 && rowFits h (fieldAt l 1) (fieldAt l 2) (fieldAt l 3) (fieldAt l 4))
+unfoldable pub mealyLine : Head → ℕ → ℕ → List ℕ → RowLine
+unfolding split setOf rowFits outputsFit rowChecked
+mealyLine h count line l =
+    cond (eqb (length (fieldsOf l)) 5 && (rowFits h (fieldAt l 1) (fieldAt l 2) (fieldAt l 3) && outputsFit h (fieldAt l 4)))
     (rowChecked count (rowOf line (fieldAt l 1) (fieldAt l 2) (fieldAt l 3) (fieldAt l 4)))
     (RowLine.Refused BadLine)
+
+-- the row of a Moore machine has no outputs, and so says 0 of each
+unfoldable pub mooreLine : Head → ℕ → ℕ → List ℕ → RowLine
+unfolding split setOf rowFits rowChecked
+mooreLine h count line l =
+    cond (eqb (length (fieldsOf l)) 4 && rowFits h (fieldAt l 1) (fieldAt l 2) (fieldAt l 3))
+    (rowChecked count (rowOf line (fieldAt l 1) (fieldAt l 2) (fieldAt l 3) []))
+    (RowLine.Refused BadLine)
+
+unfoldable pub rowLine : Head → ℕ → ℕ → List ℕ → RowLine
+unfolding mooreLine mealyLine
+rowLine h count line l = cond (h .moore) (mooreLine h count line l) (mealyLine h count line l)
 
 -- ---- `DI` and n of `+ - .`: `+` is the first block, `-` the second, `.` neither
 
@@ -89,6 +110,21 @@ dichotomyLine h count l =
     (cond (leb most-dichotomies count) (DichotomyLine.Refused Limit)
     (DichotomyLine.Read (record { first = setOf plus (fieldAt l 1); second = setOf dash (fieldAt l 1) })))
     (DichotomyLine.Refused BadLine)
+
+-- ---- `OU state outputs` (02, request 13)
+
+-- a state that is not below n is 2
+unfoldable pub outputsRead : Head → ℕ → List ℕ → OutputsLine
+unfolding setOf
+outputsRead h s outputs =
+    cond (ltb s (h .states)) (OutputsLine.Read (record { 0 = s }) (record { ones = setOf one outputs; dashes = setOf dash outputs })) (OutputsLine.Refused Limit)
+
+unfoldable pub outputsLine : Head → List ℕ → OutputsLine
+unfolding split numeralOf outputsFit outputsRead
+outputsLine h l =
+    cond (eqb (length (fieldsOf l)) 3 && outputsFit h (fieldAt l 2))
+    (elim (numeralOf (fieldAt l 1)) [ Is s ↦ outputsRead h s (fieldAt l 2) | Bad ↦ OutputsLine.Refused BadLine ])
+    (OutputsLine.Refused BadLine)
 
 -- ---- `EN`: the mark alone
 

@@ -1,54 +1,89 @@
--- 01, "The listing" and the order of its refusals: lines from the top, the first faulty line decides, then the conflict.
+-- 01, "The listing" and the order of its refusals, with 02, request 13: lines from the top, the first faulty line decides, then a state without outputs, then the conflict.
 use mathlib.Core.Bool.{Bool, true, false, _&&_, _||_, not, cond}
-use mathlib.Core.List.{List, [], _∷_}
+use mathlib.Core.List.{List, [], _∷_, _++_}
 use Prim.Native.Nat.{ℕ, _+_}
 use lib.ListN.{length, take, set, replicate}
 use lib.Dec.{leb, eqb}
-use lib.Bits.{bitAnd}
-use Rattle.sets.specs.Sets.{has, every}
-use Rattle.rules.specs.Limits.{most-bytes, most-inputs, most-rows, most-dichotomies}
-use Rattle.rules.specs.Text.{split, linesOf, markOf, markIs}
-use Rattle.rules.specs.Lines.{headLine, rowLine, dichotomyLine, endLine}
+use lib.Bits.{bitAnd, bitOr}
+use Rattle.sets.specs.Sets.{has, only, everyone, every}
+use Rattle.rules.specs.Limits.{most-bytes, most-states, most-inputs, most-rows, most-dichotomies}
+use Rattle.rules.specs.Text.{split, linesOf, fieldAt, markOf, markIs, numeralOf}
+use Rattle.rules.specs.Lines.{headLine, rowLine, dichotomyLine, outputsLine, endLine}
 use Rattle.rules.specs.declared.Head.{Head}
+use Rattle.rules.specs.declared.Pattern.{Pattern}
 use Rattle.rules.specs.declared.Row.{Row}
 use Rattle.rules.specs.declared.Requirement.{Requirement}
 use Rattle.rules.specs.declared.Listing.{Listing}
 use Rattle.rules.specs.declared.Mark.{Mark}
-use Rattle.rules.specs.declared.Mark.the-variants.{Mc, Pt, Di, En, Unknown}
+use Rattle.rules.specs.declared.Mark.the-variants.{Mc, Mo, Pt, Di, Ou, En, Unknown}
+use Rattle.rules.specs.declared.Numeral.the-variants.{Is, Bad}
 use Rattle.rules.specs.declared.Refusal.{Refusal}
-use Rattle.rules.specs.declared.Refusal.the-variants.{BadLine, Limit, Place, Conflict}
+use Rattle.rules.specs.declared.Refusal.the-variants.{BadLine, Limit, Place, Conflict, NoOutputs}
 use Rattle.rules.specs.declared.Verdict.{Verdict}
 use Rattle.rules.specs.declared.HeadLine.{HeadLine}
 use Rattle.rules.specs.declared.RowLine.{RowLine}
 use Rattle.rules.specs.declared.DichotomyLine.{DichotomyLine}
+use Rattle.rules.specs.declared.OutputsLine.{OutputsLine}
 use Rattle.rules.specs.declared.EndLine.{EndLine}
 use Rattle.rules.specs.declared.Reading.{Reading}
 
 -- ---- a listing as it grows
 
+abbrev pub noPattern : Pattern
+noPattern = record { ones = 0; dashes = 0 }
+
 abbrev pub noRow : Row
-noRow = record { input = record { ones = 0; dashes = 0 }; group = 0; next = 0; outputs = record { ones = 0; dashes = 0 }; line = 0 }
+noRow = record { input = noPattern; group = 0; next = 0; outputs = noPattern; line = 0 }
 
 abbrev pub noRequirement : Requirement
 noRequirement = record { first = 0; second = 0 }
 
 unfoldable pub blank : Listing
 blank = record {
-  head = record { states = 0; inputs = 0; outputs = 0; width = 0 };
+  head = record { states = 0; inputs = 0; outputs = 0; width = 0; keeps = false; moore = false };
   rows = 0;
   table = replicate most-rows noRow;
   dichotomies = 0;
   asked = replicate most-dichotomies noRequirement;
+  said = replicate most-states noPattern;
+  given = 0;
 }
 
 abbrev pub withHead : Head → Listing → Listing
-withHead h t = record { head = h; rows = t .rows; table = t .table; dichotomies = t .dichotomies; asked = t .asked }
+withHead h t = record { head = h; rows = t .rows; table = t .table; dichotomies = t .dichotomies; asked = t .asked; said = t .said; given = t .given }
 
 abbrev pub withRow : Row → Listing → Listing
-withRow r t = record { head = t .head; rows = t .rows + 1; table = set (t .table) (t .rows) r; dichotomies = t .dichotomies; asked = t .asked }
+withRow r t = record {
+  head = t .head;
+  rows = t .rows + 1;
+  table = set (t .table) (t .rows) r;
+  dichotomies = t .dichotomies;
+  asked = t .asked;
+  said = t .said;
+  given = t .given;
+}
 
 abbrev pub withDichotomy : Requirement → Listing → Listing
-withDichotomy d t = record { head = t .head; rows = t .rows; table = t .table; dichotomies = t .dichotomies + 1; asked = set (t .asked) (t .dichotomies) d }
+withDichotomy d t = record {
+  head = t .head;
+  rows = t .rows;
+  table = t .table;
+  dichotomies = t .dichotomies + 1;
+  asked = set (t .asked) (t .dichotomies) d;
+  said = t .said;
+  given = t .given;
+}
+
+abbrev pub withOutputs : ℕ → Pattern → Listing → Listing
+withOutputs s p t = record {
+  head = t .head;
+  rows = t .rows;
+  table = t .table;
+  dichotomies = t .dichotomies;
+  asked = t .asked;
+  said = set (t .said) s p;
+  given = bitOr (t .given) (only s);
+}
 
 -- the rows and the dichotomies of a listing
 abbrev pub rowsOf : Listing → List Row
@@ -56,6 +91,20 @@ rowsOf t = take (t .rows) (t .table)
 
 abbrev pub dichotomiesOf : Listing → List Requirement
 dichotomiesOf t = take (t .dichotomies) (t .asked)
+
+-- what the `OU` line of the state s says, as a row of that state alone, with dashes for the inputs, that names no next state
+abbrev pub stateRow : ℕ → Pattern → Row
+stateRow s p = record { input = record { ones = 0; dashes = everyone most-inputs }; group = only s; next = 0; outputs = p; line = 0 }
+
+-- of each state, from s on
+unfoldable pub stateRows : ℕ → List Pattern → List Row
+stateRows s [] = []
+stateRows s (p ∷ ps) = stateRow s p ∷ stateRows (s + 1) ps
+
+-- all that a listing says: its rows, and under `MO` one row for each state, in order
+unfoldable pub allRows : Listing → List Row
+unfolding stateRows
+allRows t = rowsOf t ++ cond (t .head .moore) (stateRows 0 (take (t .head .states) (t .said))) []
 
 -- ---- the lines
 
@@ -84,32 +133,45 @@ abbrev pub onDichotomy : DichotomyLine → Listing → Step
 onDichotomy (DichotomyLine.Read d) t = goes (withDichotomy d t)
 onDichotomy (DichotomyLine.Refused r) t = stops r
 
+abbrev pub onOutputs : OutputsLine → Listing → Step
+onOutputs (OutputsLine.Read s p) t = goes (withOutputs (s .0) p t)
+onOutputs (OutputsLine.Refused r) t = stops r
+
 abbrev pub onEnd : EndLine → Step
 onEnd EndLine.Read = ends
 onEnd (EndLine.Refused r) = stops r
 
--- line 1: a mark other than `MC`, known or not, is 3
-unfoldable pub firstLine : Mark → Listing → List ℕ → Step
-unfolding headLine
-firstLine Mc t l = onHead (headLine l) t
-firstLine Pt t l = stops Place
-firstLine Di t l = stops Place
-firstLine En t l = stops Place
-firstLine Unknown t l = stops Place
+-- the state that an `OU` line names, if its number can be read, has had one
+unfoldable pub hadOutputs : ℕ → List ℕ → Bool
+unfolding split numeralOf
+hadOutputs given l = elim (numeralOf (fieldAt l 1)) [ Is s ↦ eqb (has given s) 1 | Bad ↦ false ]
 
--- line k, from 2 on: a second `MC` is 3, an unknown mark is 1
-unfoldable pub laterLine : Mark → ℕ → Listing → List ℕ → Step
-unfolding rowLine dichotomyLine endLine
-laterLine Mc k t l = stops Place
-laterLine Pt k t l = onRow (rowLine (t .head) (t .rows) k l) t
-laterLine Di k t l = onDichotomy (dichotomyLine (t .head) (t .dichotomies) l) t
-laterLine En k t l = onEnd (endLine l)
-laterLine Unknown k t l = stops BadLine
+-- The place of line k, under the head h and behind `OU` lines of the states given: `MC` or `MO` is line 1 and no other; `OU` stands under `MO`, once for a state.
+unfoldable pub placed : Mark → ℕ → Head → ℕ → List ℕ → Bool
+unfolding hadOutputs
+placed Mc k h given l = eqb k 1
+placed Mo k h given l = eqb k 1
+placed Pt k h given l = not (eqb k 1)
+placed Di k h given l = not (eqb k 1)
+placed Ou k h given l = not (eqb k 1) && (h .moore && not (hadOutputs given l))
+placed En k h given l = not (eqb k 1)
+placed Unknown k h given l = not (eqb k 1)
 
--- line k, behind those that made t
+-- a line in its place: an unknown mark is 1
+unfoldable pub lineDoes : Mark → ℕ → Listing → List ℕ → Step
+unfolding headLine rowLine dichotomyLine outputsLine endLine
+lineDoes Mc k t l = onHead (headLine false l) t
+lineDoes Mo k t l = onHead (headLine true l) t
+lineDoes Pt k t l = onRow (rowLine (t .head) (t .rows) k l) t
+lineDoes Di k t l = onDichotomy (dichotomyLine (t .head) (t .dichotomies) l) t
+lineDoes Ou k t l = onOutputs (outputsLine (t .head) l) t
+lineDoes En k t l = onEnd (endLine l)
+lineDoes Unknown k t l = stops BadLine
+
+-- line k, behind those that made t: out of its place it is 3
 unfoldable pub lineStep : ℕ → Listing → List ℕ → Step
-unfolding firstLine laterLine markOf markIs
-lineStep k t l = cond (eqb k 1) (firstLine (markIs (markOf l)) t l) (laterLine (markIs (markOf l)) k t l)
+unfolding placed lineDoes markOf markIs
+lineStep k t l = cond (placed (markIs (markOf l)) k (t .head) (t .given) l) (lineDoes (markIs (markOf l)) k t l) (stops Place)
 
 -- ---- the end
 
@@ -120,33 +182,27 @@ nothing ([] ∷ []) = true
 nothing ([] ∷ (l ∷ ls)) = false
 nothing ((x ∷ xs) ∷ ls) = false
 
--- after `EN`, which stood on line k: bytes after it are 3
+-- under `MO` each state has its `OU` line, those given
+unfoldable pub complete : Head → ℕ → Bool
+unfolding every
+complete h given = not (h .moore) || every (h .states) (λ s. eqb (has given s) 1)
+
+-- after `EN`, which stood on line k: bytes after it are 3, then a state without `OU` is 17
 unfoldable pub ended : ℕ → Listing → List (List ℕ) → Reading
-unfolding refused nothing
-ended k t rest = cond (nothing rest) (accepted t) (refused Place (k + 1))
-
--- the place of line k by its mark: `MC` on line 1 and there alone
-abbrev pub isMc : Mark → Bool
-isMc Mc = true
-isMc Pt = false
-isMc Di = false
-isMc En = false
-isMc Unknown = false
-
-unfoldable pub placed : ℕ → Mark → Bool
-placed k m = cond (eqb k 1) (isMc m) (not (isMc m))
+unfolding refused nothing complete
+ended k t rest = cond (nothing rest) (cond (complete (t .head) (t .given)) (accepted t) (refused NoOutputs k)) (refused Place (k + 1))
 
 -- what stands behind the last LF, as line k: nothing, so `EN` is missing; or a line without LF, whose place is judged before that
-unfoldable pub unended : ℕ → List ℕ → Reading
+unfoldable pub unended : ℕ → Head → ℕ → List ℕ → Reading
 unfolding refused placed markOf markIs
-unended k [] = refused Place k
-unended k (x ∷ xs) = cond (placed k (markIs (markOf (x ∷ xs)))) (refused BadLine k) (refused Place k)
+unended k h given [] = refused Place k
+unended k h given (x ∷ xs) = cond (placed (markIs (markOf (x ∷ xs))) k h given (x ∷ xs)) (refused BadLine k) (refused Place k)
 
 -- the lines from number k on, behind those that made t
 unfoldable pub readLines : ℕ → Listing → List (List ℕ) → Reading
 unfolding refused unended ended lineStep
 readLines k t [] = refused Place k
-readLines k t (l ∷ []) = unended k l
+readLines k t (l ∷ []) = unended k (t .head) (t .given) l
 readLines k t (l ∷ (m ∷ ms)) =
     elim (lineStep k t l) [
       | goes u ↦ readLines (k + 1) u (m ∷ ms)

@@ -1,16 +1,17 @@
--- 02, request 02: what a listing means, what a cover means to a reader of `.type fd`, and when the two agree.
+-- 02, requests 02 and 13: what a listing means, what a cover means to a reader of `.type fd`, and when the two agree.
 use mathlib.Core.Bool.{Bool, true, _&&_, not, cond}
 use mathlib.Core.List.{List, [], _∷_, _++_}
 use Prim.Native.Nat.{ℕ, _+_}
 use lib.Bits.{bitAnd}
 use lib.Dec.{eqb}
 use lib.ListN.{length, getD}
-use Rattle.sets.specs.Sets.{every}
+use Rattle.sets.specs.Sets.{has, every}
 use Rattle.rules.specs.Text.{dash, one, fieldAt, split}
-use Rattle.rules.specs.Listing.{rowsOf, some}
+use Rattle.rules.specs.Listing.{allRows, some}
 use Rattle.rules.specs.Code.{codeOf}
 use Rattle.rules.specs.Cover.{saysOne, saysDash, fires, vector, lineFires}
 use Rattle.rules.specs.declared.Head.{Head}
+use Rattle.rules.specs.declared.Pattern.{Pattern}
 use Rattle.rules.specs.declared.Row.{Row}
 use Rattle.rules.specs.declared.Listing.{Listing}
 
@@ -24,9 +25,13 @@ pub data Meaning : Type 0 where
 
 -- an output is 1 if a firing row says 1; free if none says 1 and some firing row says dash; otherwise 0
 unfoldable pub outputMeans : Listing → ℕ → ℕ → ℕ → Meaning
-unfolding some fires
+unfolding some fires allRows
 outputMeans t x s j =
-    cond (some (λ r. fires (t .head) r x s && saysOne j r) (rowsOf t)) on (cond (some (λ r. fires (t .head) r x s && saysDash j r) (rowsOf t)) free off)
+    cond (some (λ r. fires (t .head) r x s && saysOne j r) (allRows t)) on (cond (some (λ r. fires (t .head) r x s && saysDash j r) (allRows t)) free off)
+
+-- what is said of an output in an `OU` line, alone: 1, free at a dash, or 0
+unfoldable pub saidMeans : Pattern → ℕ → Meaning
+saidMeans p j = cond (eqb (has (p .ones) j) 1) on (cond (eqb (has (p .dashes) j) 1) free off)
 
 -- the next state that the firing rows name, as a set of one or of none: the first that is named, for no two name different ones (6)
 unfoldable pub namedBy : Head → ℕ → ℕ → List Row → ℕ
@@ -35,8 +40,8 @@ namedBy h x s [] = 0
 namedBy h x s (r ∷ rs) = cond (fires h r x s && not (eqb (r .next) 0)) (r .next) (namedBy h x s rs)
 
 unfoldable pub nextMeans : Listing → ℕ → ℕ → ℕ
-unfolding namedBy
-nextMeans t x s = namedBy (t .head) x s (rowsOf t)
+unfolding namedBy allRows
+nextMeans t x s = namedBy (t .head) x s (allRows t)
 
 -- a bit of the next code is that of the state named, and free where none is
 unfoldable pub bitMeans : Listing → ℕ → ℕ → ℕ → Meaning

@@ -18,11 +18,13 @@ use Rattle.rules.specs.declared.Listing.{Listing}
 -- the same listing with another width
 abbrev pub withWidth : ℕ → Listing → Listing
 withWidth w t = record {
-  head = record { states = t .head .states; inputs = t .head .inputs; outputs = t .head .outputs; width = w };
+  head = record { states = t .head .states; inputs = t .head .inputs; outputs = t .head .outputs; width = w; keeps = t .head .keeps; moore = t .head .moore };
   rows = t .rows;
   table = t .table;
   dichotomies = t .dichotomies;
   asked = t .asked;
+  said = t .said;
+  given = t .given;
 }
 
 -- the bits of its code of that width

@@ -1,4 +1,4 @@
-// The things that document 01 names: states, requirements, rows, listings, refusals. Their rules stand in specs/.
+// The things that documents 01 and 02 name: states, requirements, rows, listings, refusals. Their rules stand in specs/.
 ghost use mathlib.Core.Path.{_≡_};
 ghost use Rattle.rules.specs.Refusals.{number};
 ghost use Rattle.rules.specs.Requirements.{isBy};
@@ -15,6 +15,9 @@ pub const MOST_BITS: usize = 64;
 pub const MOST_ROWS: usize = 128;
 
 pub const MOST_DICHOTOMIES: usize = 64;
+
+// A dash at every input that there can be.
+pub const EVERY_INPUT: u32 = 65535;
 
 // Pairs, groups and dichotomies together.
 pub const MOST_ASKED: usize = 10016;
@@ -57,12 +60,15 @@ impl Judgement {
     }
 }
 
-// What `MC` says: how many states, inputs and outputs, and the width.
+// What `MC` or `MO` says: how many states, inputs and outputs, the width, whether the cover keeps the rows that say nothing, and whether it was `MO`: the
+// outputs of a Moore machine depend on the state alone.
 pub struct Head {
     pub states: usize,
     pub inputs: usize,
     pub outputs: usize,
     pub width: usize,
+    pub keeps: bool,
+    pub moore: bool,
 }
 
 // Characters `0 1 -` of a field: digit j of a mask is character j.
@@ -72,7 +78,6 @@ pub struct Pattern {
 }
 
 // What `PT` says, and the line where it stands. `next` has one state, or none.
-// A dash of the outputs is kept, though the cover writes it as 0.
 pub struct Row {
     pub input: Pattern,
     pub group: u64,
@@ -81,16 +86,19 @@ pub struct Row {
     pub line: usize,
 }
 
-// A listing: its head, its rows in the first places of a table, and its dichotomies in the first places of another.
+// A listing: its head, its rows in the first places of a table, its dichotomies in the first places of another, the outputs that `OU` lines say, state s at
+// place s of a third, and the set of the states that have one.
 pub struct Listing {
     pub head: Head,
     pub rows: usize,
     pub table: [Row; MOST_ROWS],
     pub dichotomies: usize,
     pub asked: [Requirement; MOST_DICHOTOMIES],
+    pub said: [Pattern; MOST_STATES],
+    pub given: u64,
 }
 
-// Why a call is refused, in the order of 01's table. Its number 8 is unused.
+// Why a call is refused, in the order of their numbers, of which 8 is unused.
 pub enum Refusal {
     BadLine,
     Limit,
@@ -102,6 +110,7 @@ pub enum Refusal {
     Unmet,
     NoRoom,
     BadCall,
+    NoOutputs,
 }
 
 impl Refusal {
@@ -120,6 +129,7 @@ impl Refusal {
             Refusal::Unmet => 9,
             Refusal::NoRoom => 10,
             Refusal::BadCall => 11,
+            Refusal::NoOutputs => 17,
         }
     }
 }
@@ -133,8 +143,10 @@ pub enum Verdict {
 // The mark that leads a line.
 pub enum Mark {
     Mc,
+    Mo,
     Pt,
     Di,
+    Ou,
     En,
     Unknown,
 }
@@ -158,6 +170,11 @@ pub enum RowLine {
 
 pub enum DichotomyLine {
     Read(Requirement),
+    Refused(Refusal),
+}
+
+pub enum OutputsLine {
+    Read(StateNumber, Pattern),
     Refused(Refusal),
 }
 

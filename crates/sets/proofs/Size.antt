@@ -4,8 +4,9 @@ use Prim.Native.Nat.{ℕ, zero, suc, _+_, _-_, _*_, _/_, _%_, _^_, _≤_, _<_}
 use native.Mathlib.Omega.{arith}
 use lib.Arith.{lt-one}
 use lib.Count.{ones, ones-step}
-use Rattle.sets.specs.Sets.{has, flip, sizeIn, size, total}
-use Rattle.sets.proofs.Members.{has-zero, has-suc, half-lt, has-flip, has-flip-other, flip-lt}
+use lib.Pow.{pow-lt, pow-pos}
+use Rattle.sets.specs.Sets.{has, only, flip, sizeIn, size, total}
+use Rattle.sets.proofs.Members.{has-zero, has-suc, has-none, has-only, has-other, half-lt, has-flip, has-flip-other, flip-lt}
 use Rattle.sets.proofs.Totals.{total-same, total-change, total-none, none-total}
 
 -- the machine's count of ones
@@ -55,3 +56,17 @@ size-none n m p e = total-none n (has m) (sym (size-total n m p) ∙ e)
 
 pub none-size : (n m : ℕ) → m < 2 ^ n → ((s : ℕ) → s < n → has m s ≡ 0) → size m ≡ 0
 none-size n m p h = size-total n m p ∙ none-total n (has m) h
+
+-- the empty set, and a set of one state
+pub size-zero : size 0 ≡ 0
+size-zero = none-size 0 0 (pow-pos 0) (λ t _. has-none t)
+
+pub size-only : (s : ℕ) → size (only s) ≡ 1
+size-only s =
+    omega (
+      arith,
+      size-change (suc s) (only s) 0 s (pow-lt (omega arith)) (pow-pos (suc s)) (omega arith) (λ t d. has-other s t d ∙ sym (has-none t)),
+      has-only s,
+      has-none s,
+      size-zero,
+    )

@@ -1,25 +1,27 @@
 -- How long the lines of a cover, and a cover, can be, within 01's limits: what a lent buffer has to hold.
-use mathlib.Core.Path.{subst}
+use mathlib.Core.Path.{refl, subst}
 use mathlib.Core.List.{List, [], _∷_, _++_}
 use Prim.Native.Nat.{ℕ, _+_, _*_, _^_, _≤_, _<_}
 use native.Mathlib.Omega.{arith}
 use lib.ListN.{length, length-append}
-use Rattle.rules.specs.Limits.{most-bits, most-rows}
+use Rattle.rules.specs.Limits.{most-bits, most-lines}
 use Rattle.rules.specs.Text.{bytes, lf}
-use Rattle.rules.specs.Listing.{rowsOf}
+use Rattle.rules.specs.Listing.{allRows}
 use Rattle.rules.specs.Report.{joinedLines}
-use Rattle.rules.specs.Cover.{countedLine, coverRow, coverLines, cover}
+use Rattle.rules.specs.Cover.{countedLine, coverRow, printedRows, coverLines, cover}
 use Rattle.rules.specs.declared.Head.{Head}
 use Rattle.rules.specs.declared.Row.{Row}
 use Rattle.rules.specs.declared.Listing.{Listing}
 use Rattle.rules.proofs.Decimal.{decimal-length}
+use Rattle.rules.proofs.Printed.{printed-few}
 use Rattle.rules.proofs.Parts.{AllFit, fit-none, fit-more, fit-append, fit-map}
 use Rattle.write_parts.specs.Parts.{longest-line}
 use Rattle.write_pen.proofs.Growing.{joined-append, joined-one}
 use Rattle.write_faces.specs.Faces.{rowText}
 use Rattle.write_faces.proofs.Length.{row-length}
-use Rattle.write_cover.specs.Covers.{keptRow, rowTexts, countLines, Bounded}
-use Rattle.write_cover.proofs.Kept.{kept-text}
+use Rattle.write_rows.specs.Rows.{keptRow}
+use Rattle.write_cover.specs.Covers.{rowTexts, countLines, Bounded}
+use Rattle.write_cover.proofs.RowTexts.{kept-text}
 use Rattle.write_cover.proofs.Whole.{cover-text}
 
 -- ---- lines
@@ -53,28 +55,33 @@ counts-length i o p a b c =
       length-append (countedLine (bytes ".p ") p) [],
     )
 
-pub cover-length : (t : Listing) (bits : List ℕ) → Bounded (t .head) → length (rowsOf t) ≤ most-rows → length bits ≤ most-bits → length (cover t bits) ≤ 22815
+pub cover-length : (t : Listing) (bits : List ℕ) → Bounded (t .head) → length (allRows t) ≤ most-lines → length bits ≤ most-bits → length (cover t bits) ≤ 34207
 unfolding cover
 cover-length t bits b r w =
     let i = t .head .inputs + length bits in
     let o = length bits + t .head .outputs in
-    let c = counts-length i o (length (rowsOf t)) (omega (arith, b .inputs)) (omega (arith, b .outputs)) (omega arith) in
-    let l = rows-length (t .head) bits (rowsOf t) (rowsOf t) b w in
-    let rows : List (List ℕ) = rowTexts (t .head) bits (rowsOf t) (rowsOf t) in
-    subst (λ (ls : List (List ℕ)). length (joinedLines ls) ≤ 22815) (cover-text t bits)
-    (rw (joined-append (countLines i o (length (rowsOf t))) (rows ++ (bytes ".e\n" ∷ [])), joined-append rows (bytes ".e\n" ∷ []), joined-one (bytes ".e\n"))
+    let printed : List Row = printedRows (t .head) bits (allRows t) in
+    let few = printed-few (t .head) bits (allRows t) in
+    let c = counts-length i o (length printed) (omega (arith, b .inputs)) (omega (arith, b .outputs)) (omega arith) in
+    let l = rows-length (t .head) bits (allRows t) printed b w in
+    let rows : List (List ℕ) = rowTexts (t .head) bits (allRows t) printed in
+    subst (λ (ls : List (List ℕ)). length (joinedLines ls) ≤ 34207) (cover-text t bits refl)
+    (rw (joined-append (countLines i o (length printed)) (rows ++ (bytes ".e\n" ∷ [])), joined-append rows (bytes ".e\n" ∷ []), joined-one (bytes ".e\n"))
     (simp length-append (omega arith)))
 
 -- ---- no line is longer than the longest
 
-pub cover-fit : (t : Listing) (bits : List ℕ) → Bounded (t .head) → length (rowsOf t) ≤ most-rows → length bits ≤ most-bits → AllFit longest-line (coverLines t bits)
+pub cover-fit : (t : Listing) (bits : List ℕ) → Bounded (t .head) → length (allRows t) ≤ most-lines → length bits ≤ most-bits → AllFit longest-line (coverLines t bits)
 unfolding coverLines
 cover-fit t bits b r w =
     fit-more {l = countedLine (bytes ".i ") (t .head .inputs + length bits)} (omega (arith, counted-length 1 (bytes ".i ") (t .head .inputs + length bits) (omega arith) (omega (arith, b .inputs))))
     (fit-more {l = countedLine (bytes ".o ") (length bits + t .head .outputs)} (omega (arith, counted-length 1 (bytes ".o ") (length bits + t .head .outputs) (omega arith) (omega (arith, b .outputs))))
     (fit-more {l = bytes ".type fd\n"} (omega arith)
-    (fit-more {l = countedLine (bytes ".p ") (length (rowsOf t))} (omega (arith, counted-length 2 (bytes ".p ") (length (rowsOf t)) (omega arith) (omega arith)))
-    (fit-append (fit-map longest-line (λ q. coverRow (t .head) bits (rowsOf t) q ++ (lf ∷ [])) each (rowsOf t)) (fit-more {l = bytes ".e\n"} (omega arith) fit-none)))))
+    (fit-more {l = countedLine (bytes ".p ") (length printed)} (omega (arith, counted-length 2 (bytes ".p ") (length printed) (omega arith) (omega (arith, printed-few (t .head) bits (allRows t)))))
+    (fit-append (fit-map longest-line (λ q. coverRow (t .head) bits (allRows t) q ++ (lf ∷ [])) each printed) (fit-more {l = bytes ".e\n"} (omega arith) fit-none)))))
   where
-    each : (q : Row) → length (coverRow (t .head) bits (rowsOf t) q ++ (lf ∷ [])) ≤ longest-line
-    each q = rw (← kept-text (t .head) bits (rowsOf t) q) (row-few (t .head) bits (keptRow (rowsOf t) q) b w)
+    printed : List Row
+    printed = printedRows (t .head) bits (allRows t)
+
+    each : (q : Row) → length (coverRow (t .head) bits (allRows t) q ++ (lf ∷ [])) ≤ longest-line
+    each q = rw (← kept-text (t .head) bits (allRows t) q) (row-few (t .head) bits (keptRow (allRows t) q) b w)

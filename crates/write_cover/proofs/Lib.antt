@@ -1,3 +1,3 @@
-pub mod Kept
+pub mod RowTexts
 pub mod Whole
 pub mod Length

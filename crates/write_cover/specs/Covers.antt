@@ -3,33 +3,19 @@ use mathlib.Core.Bool.{Bool, _&&_, cond}
 use mathlib.Core.List.{List, [], _∷_, map}
 use Prim.Native.Nat.{ℕ, _≤_}
 use lib.Dec.{leb}
-use lib.Bits.{bitAnd, bitOr, bitXor}
 use Rattle.rules.specs.Limits.{most-inputs, most-outputs}
 use Rattle.rules.specs.Text.{bytes}
-use Rattle.rules.specs.Listing.{meets}
-use Rattle.rules.specs.Cover.{countedLine, coverLines}
+use Rattle.rules.specs.Cover.{countedLine, isLeftOut, coverLines}
 use Rattle.rules.specs.declared.Head.{Head}
 use Rattle.rules.specs.declared.Row.{Row}
 use Rattle.rules.specs.declared.Listing.{Listing}
 use Rattle.write_faces.specs.Faces.{rowText}
+use Rattle.write_rows.specs.Rows.{keptRow}
 
--- outputs said 1, beside those of a mask: by each of some rows that meets the row r
-unfoldable pub saidOne : Row → ℕ → List Row → ℕ
-unfolding meets
-saidOne r m [] = m
-saidOne r m (q ∷ qs) = saidOne r (cond (meets r q) (bitOr m (q .outputs .ones)) m) qs
-
--- the row r of the rows rs with the dashes that it keeps: those where neither it nor a row that it meets says 1
-unfoldable pub keptRow : List Row → Row → Row
-unfolding saidOne
-keptRow rs r =
-    record {
-      input = r .input;
-      group = r .group;
-      next = r .next;
-      outputs = record { ones = r .outputs .ones; dashes = bitXor (r .outputs .dashes) (bitAnd (r .outputs .dashes) (saidOne r (r .outputs .ones) rs)) };
-      line = r .line;
-    }
+-- the line of a row, with the dashes that it keeps; a row that is left out has none
+unfoldable pub printedText : Head → List ℕ → Row → Row → List (List ℕ)
+unfolding isLeftOut rowText
+printedText h bits r kept = cond (isLeftOut h bits r) [] (rowText h bits kept ∷ [])
 
 -- the lines of the rows qs, of the rows rs of a listing
 unfoldable pub rowTexts : Head → List ℕ → List Row → List Row → List (List ℕ)

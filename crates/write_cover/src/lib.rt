@@ -1,18 +1,15 @@
 // The cover, line by line: its counts, a line for each row, and its end. Marks are fixed byte strings.
 ghost use mathlib.Core.Path.{_≡_};
-ghost use mathlib.Core.Bool.{cond};
 ghost use Prim.Native.Nat.{_≤_};
-ghost use lib.Bits.{bitOr};
 ghost use lib.ListN.{length, take};
 ghost use Rattle.rules.specs.Limits.{most-bits};
-ghost use Rattle.rules.specs.Listing.{rowsOf, meets};
-ghost use Rattle.rules.specs.Cover.{countedLine};
+ghost use Rattle.rules.specs.Listing.{allRows};
+ghost use Rattle.rules.specs.Cover.{countedLine, printedRows, coverLines};
 ghost use Rattle.write_faces.specs.Faces.{rowText};
 ghost use Rattle.write_parts.specs.Parts.{added, addedAll};
-ghost use Rattle.write_cover.specs.Covers.{Bounded, saidOne, keptRow, countLines, bounded, linesWithin};
+ghost use Rattle.write_cover.specs.Covers.{Bounded, printedText, rowTexts, countLines, bounded, linesWithin};
 use rules::Head;
 use rules::Listing;
-use rules::Pattern;
 use rules::Row;
 use write_parts::Part;
 
@@ -36,49 +33,6 @@ fn add_counts(out: &mut [u8], part: Part, inputs: usize, outputs: usize, rows: u
     add_count(out, s, b".p ", rows)
 }
 
-// The outputs of a mask, and those that the row q says are 1, if it meets `row`.
-fn with_said(row: Row, q: Row, mask: u32) -> u32
-    ensures { λ r. ⌜ r ≡ cond (meets row q) (bitOr mask (q .outputs .ones)) mask ⌝ }
-{
-    if sharing::meet(row, q) {
-        return mask | q.outputs.ones;
-    }
-    mask
-}
-
-// The outputs that `row`, or a row of the listing that meets it, says are 1.
-fn said_one(t: Listing, row: Row) -> u32
-    ensures { λ r. ⌜ r ≡ saidOne row (row .outputs .ones) (rowsOf t) ⌝ }
-{
-    let n = sets::least(t.rows, rules::MOST_ROWS);
-    let mut mask = row.outputs.ones;
-    let mut k: usize = 0;
-    while k < n {
-        let q = t.table[k];
-        mask = with_said(row, q, mask);
-        k += 1;
-    }
-    mask
-}
-
-// A row of the listing with the dashes that it keeps.
-fn kept_row(t: Listing, row: Row) -> Row
-    ensures { λ r. ⌜ r ≡ keptRow (rowsOf t) row ⌝ }
-{
-    let input = row.input;
-    let ones = row.outputs.ones;
-    let free = row.outputs.dashes;
-    let dashes = free ^ (free & said_one(t, row));
-    let outputs = Pattern { ones, dashes };
-    Row {
-        input,
-        group: row.group,
-        next: row.next,
-        outputs,
-        line: row.line,
-    }
-}
-
 // The line of one row.
 fn add_row(out: &mut [u8], part: Part, head: Head, bits: &[u64], row: Row) -> Part
     requires { ⌜ Bounded head × (length (now bits) ≤ most-bits) ⌝ }
@@ -87,6 +41,49 @@ fn add_row(out: &mut [u8], part: Part, head: Head, bits: &[u64], row: Row) -> Pa
     let mut line = [0u8; 178];
     let end = write_faces::put_row(&mut line, 0, head, bits, row);
     write_parts::add_line(out, part, &line[..end])
+}
+
+// The line of `kept`, which is `row` with the dashes that it keeps, or nothing where the row is left out.
+fn add_printed(out: &mut [u8], part: Part, head: Head, bits: &[u64], row: Row, kept: Row) -> Part
+    requires { ⌜ Bounded head × (length (now bits) ≤ most-bits) ⌝ }
+    ensures { λ r. ⌜ (r, now (out .exit)) ≡ addedAll (printedText head (now (bits .entry)) row kept) (part, now (out .entry)) ⌝ }
+{
+    if write_rows::is_left_out(head, bits, row) {
+        return part;
+    }
+    add_row(out, part, head, bits, kept)
+}
+
+// The lines of all rows of a listing, those that its states add among them, that are not left out.
+fn add_rows(out: &mut [u8], part: Part, t: Listing, bits: &[u64]) -> Part
+    requires { ⌜ Bounded (t .head) × (length (now bits) ≤ most-bits) ⌝ }
+    ensures { λ r. ⌜ (r, now (out .exit)) ≡ addedAll (rowTexts (t .head) (now (bits .entry)) (allRows t) (printedRows (t .head) (now (bits .entry)) (allRows t))) (part, now (out .entry)) ⌝ }
+{
+    let n = sets::least(t.rows, rules::MOST_ROWS);
+    let all = write_rows::row_count(t.head, t.rows);
+    let mut to = part;
+    let mut k: usize = 0;
+    while k < all {
+        let place = sets::least(k, rules::MOST_ROWS - 1);
+        let state = write_rows::state_at(n, k);
+        let row = write_rows::row_at(n, k, t.table[place], t.said[state]);
+        let kept = write_rows::kept_row(t, row);
+        to = add_printed(out, to, t.head, bits, row, kept);
+        k += 1;
+    }
+    to
+}
+
+// The whole cover of a listing by these bits.
+fn add_lines(out: &mut [u8], part: Part, t: Listing, bits: &[u64]) -> Part
+    requires { ⌜ Bounded (t .head) × (length (now bits) ≤ most-bits) ⌝ }
+    ensures { λ r. ⌜ (r, now (out .exit)) ≡ addedAll (coverLines t (now (bits .entry))) (part, now (out .entry)) ⌝ }
+{
+    let w = bits.len();
+    let printed = write_rows::printed_count(t, bits);
+    let rows = add_counts(out, part, t.head.inputs + w, w + t.head.outputs, printed);
+    let end = add_rows(out, rows, t, bits);
+    write_parts::add_line(out, end, b".e\n")
 }
 
 // Whether so many inputs and outputs are within 01's limits.
@@ -114,13 +111,5 @@ pub fn add_cover(
         return part;
     }
     let w = sets::least(width, rules::MOST_BITS);
-    let n = sets::least(t.rows, rules::MOST_ROWS);
-    let mut to = add_counts(out, part, t.head.inputs + w, w + t.head.outputs, n);
-    let mut i: usize = 0;
-    while i < n {
-        let row = t.table[i];
-        to = add_row(out, to, t.head, &bits[..w], kept_row(t, row));
-        i += 1;
-    }
-    write_parts::add_line(out, to, b".e\n")
+    add_lines(out, part, t, &bits[..w])
 }

@@ -48,16 +48,31 @@ returns-4 c =
     let i = o .before .before .before in
     rw (i .before .before .before .n .given .1, i .i .given .1, o .o .given .1, c .enum-told4 .given .1)
 
-head-numbers-requires : tie.Need-head-numbers-requires
-head-numbers-requires c κs = search needs
+enum-known-k : tie.Need-enum-known-k
+enum-known-k c = search needs
+
+enum-told-5 : tie.Need-enum-told-5
+enum-told-5 c = search needs
 
 returns-5 : tie.Need-returns-5
 unfolding headNumerals
 returns-5 c =
-    let w = c .before .before in
+    let w = c .before .before .before in
     let o = w .before .before .before in
     let i = o .before .before .before in
-    c .head-numbers .ensures ∙ rw (i .before .before .before .n .given .1, i .i .given .1, o .o .given .1, w .w .given .1)
+    rw (i .before .before .before .n .given .1, i .i .given .1, o .o .given .1, w .w .given .1, c .enum-told5 .given .1)
+
+head-numbers-requires : tie.Need-head-numbers-requires
+head-numbers-requires c κs = search needs
+
+returns-6 : tie.Need-returns-6
+unfolding headNumerals
+returns-6 c =
+    let k = c .before .before in
+    let w = k .before .before .before in
+    let o = w .before .before .before in
+    let i = o .before .before .before in
+    c .head-numbers .ensures ∙ rw (i .before .before .before .n .given .1, i .i .given .1, o .o .given .1, w .w .given .1, k .k .given .1)
 
 pub head-numerals-spec : {M : Type 1} → statement M
 head-numerals-spec =
@@ -75,5 +90,8 @@ head-numerals-spec =
     enum-known-w
     enum-told-4
     returns-4
+    enum-known-k
+    enum-told-5
+    returns-5
     head-numbers-requires
-    returns-5)
+    returns-6)

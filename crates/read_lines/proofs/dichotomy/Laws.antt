@@ -7,6 +7,7 @@ use native.Mathlib.Omega.{arith}
 use lib.ListN.{length, getD, drop}
 use lib.Dec.{leb, eqb, eqb·suc-suc}
 use borrow.Author.Tests.{eqb-true}
+use Rattle.sets.proofs.Every.{and-first, and-second}
 use Rattle.rules.specs.Limits.{most-states, most-dichotomies}
 use Rattle.rules.specs.Text.{plus, dash, dot, space, split, sized, setOf}
 use Rattle.rules.specs.Lines.{dichotomyLine}
@@ -15,10 +16,10 @@ use Rattle.rules.specs.declared.Refusal.the-variants.{BadLine, Limit}
 use Rattle.rules.specs.declared.DichotomyLine.{DichotomyLine}
 use Rattle.read_fields.specs.Fields.{placesIn}
 use Rattle.read_fields.specs.declared.Places.{Places}
-use Rattle.read_fields.proofs.Characters.{sized-all, sized-turn}
+use Rattle.read_fields.proofs.Characters.{sized-turn}
 use Rattle.read_fields.proofs.Sets.{places-read, places-none}
 use Rattle.read_pieces.proofs.Laws.{Cut}
-use Rattle.read_pieces.proofs.Places.{one-piece, only-piece}
+use Rattle.read_lines.proofs.Fields.{field-last}
 
 -- what a field that is in order says, behind so many others
 abbrev said : Bool → List ℕ → DichotomyLine
@@ -34,15 +35,10 @@ line-pieces h count l f ps s e = rw (e, eqb·suc-suc (length ps) 1, s)
 rest-pieces : (k : ℕ) (t : List ℕ) (s b : Bool) → sized most-states k plus dash dot t ≡ b
     → cond (eqb (length (split space t)) 1 && sized most-states k plus dash dot (getD (split space t) 0 [])) (said s (getD (split space t) 0 [])) (DichotomyLine.Refused BadLine)
     ≡ cond b (said s t) (DichotomyLine.Refused BadLine)
-rest-pieces k t s true e =
-    rw (one-piece space plus dash dot (λ z. omega arith) (λ z. omega arith) (λ z. omega arith) t (sized-all most-states k plus dash dot t e), e)
-rest-pieces k t s false e = go (eqb (length (split space t)) 1) refl
-  where
-    go : (o : Bool) → eqb (length (split space t)) 1 ≡ o
-        → cond (o && sized most-states k plus dash dot (getD (split space t) 0 [])) (said s (getD (split space t) 0 [])) (DichotomyLine.Refused BadLine)
-        ≡ DichotomyLine.Refused BadLine
-    go false q = refl
-    go true q = rw (only-piece space t (eqb-true _ 1 q), e)
+rest-pieces k t s b e =
+    field-last (λ ps. eqb (length ps) 1 && sized most-states k plus dash dot (getD ps 0 [])) (λ ps. said s (getD ps 0 [])) (DichotomyLine.Refused BadLine) most-states k plus dash dot
+    (λ z. omega arith) (λ z. omega arith) (λ z. omega arith) (λ ps f. and-second (eqb (length ps) 1) _ f) (λ ps f. eqb-true _ 1 (and-first _ _ f)) t
+    ∙ rw e
 
 -- the mark ends at r
 module _ (h : Head) (count : ℕ) (l : List ℕ) (r : ℕ) (c : Cut space l 0 r) where

@@ -2,6 +2,7 @@
 use mathlib.Core.Path.{sym, ap, _∙_}
 use borrow.Author.Needs.{needs}
 use Rattle.rules.specs.Listing.{placed}
+use Rattle.rules.specs.declared.Mark.{Mark}
 use Rattle.read_listing.proofs.Ends.{unended-none, unended-some}
 use Rattle.read_listing.proofs.break_off.Statement.{statement}
 use Rattle.read_listing.proofs.break_off.Tie as tie
@@ -10,7 +11,7 @@ refuse-requires : tie.Need-refuse-requires
 refuse-requires c κs = search needs
 
 returns : tie.Need-returns
-returns c = c .refuse .ensures ∙ sym (unended-none _ _ (c .before .if1 .taken))
+returns c = c .refuse .ensures ∙ sym (unended-none _ _ _ _ (c .before .if1 .taken))
 
 mark-of-requires : tie.Need-mark-of-requires
 mark-of-requires c κs = search needs
@@ -24,8 +25,9 @@ refuse-requires-2 c κs = search needs
 returns-2 : tie.Need-returns-2
 returns-2 c =
     let p = c .before .before in
-    let m = sym (ap (placed _) (p .before .mark-of .ensures)) ∙ sym (p .in-place .ensures) in
-    c .refuse2 .ensures ∙ sym (unended-some _ _ (p .before .before .if1 .left) (m ∙ c .before .if2 .taken))
+    let a = p .before .before .before .before .args in
+    let m = sym (ap (λ (x : Mark). placed x (a .k) (a .h) (a .given) (a .l .now)) (p .before .mark-of .ensures)) ∙ sym (p .in-place .ensures) in
+    c .refuse2 .ensures ∙ sym (unended-some _ _ _ _ (p .before .before .if1 .left) (m ∙ c .before .if2 .taken))
 
 refuse-requires-3 : tie.Need-refuse-requires-3
 refuse-requires-3 c κs = search needs
@@ -33,8 +35,9 @@ refuse-requires-3 c κs = search needs
 returns-3 : tie.Need-returns-3
 returns-3 c =
     let p = c .before .before in
-    let m = sym (ap (placed _) (p .before .mark-of .ensures)) ∙ sym (p .in-place .ensures) in
-    c .refuse3 .ensures ∙ sym (unended-some _ _ (p .before .before .if1 .left) (m ∙ c .before .if2 .left))
+    let a = p .before .before .before .before .args in
+    let m = sym (ap (λ (x : Mark). placed x (a .k) (a .h) (a .given) (a .l .now)) (p .before .mark-of .ensures)) ∙ sym (p .in-place .ensures) in
+    c .refuse3 .ensures ∙ sym (unended-some _ _ _ _ (p .before .before .if1 .left) (m ∙ c .before .if2 .left))
 
 pub break-off-spec : {M : Type 1} → statement M
 break-off-spec =

@@ -1,20 +1,29 @@
--- `read_listing::finish` meets its contract.
-use mathlib.Core.Path.{sym, _∙_}
+-- `read_listing::finish` meets its contract: 3, then 17, then 6.
+use mathlib.Core.Path.{_≡_, sym, ap, ap₂, _∙_}
 use borrow.Author.Needs.{needs}
-use Rattle.rules.specs.Listing.{refused}
-use Rattle.read_listing.proofs.Ends.{none-behind, some-behind}
-use Rattle.read_listing.proofs.Whole.{checked-refused, checked-accepted}
+use Rattle.rules.specs.Listing.{refused, orElse, checked}
+use Rattle.read_listing.proofs.Ends.{ended-more, judged-here}
+use Rattle.read_listing.proofs.Whole.{checked-refused}
 use Rattle.read_listing.proofs.finish.Statement.{statement}
 use Rattle.read_listing.proofs.finish.Tie as tie
+
+add-refuse : tie.Need-add-refuse
+add-refuse c = search needs
 
 refuse-requires : tie.Need-refuse-requires
 refuse-requires c κs = search needs
 
 returns : tie.Need-returns
-returns c = c .refuse .ensures ∙ rw (some-behind _ (c .before .if1 .taken)) (sym (checked-refused _ _))
+returns c = c .refuse .ensures ∙ sym (checked-refused _ _) ∙ ap checked (sym (ended-more _ _ _ (c .before .if1 .taken)))
+
+outputs-verdict-requires : tie.Need-outputs-verdict-requires
+outputs-verdict-requires c κs = search needs
 
 first-clash-requires : tie.Need-first-clash-requires
 first-clash-requires c κs = search needs
+
+or-else-requires : tie.Need-or-else-requires
+or-else-requires c κs = search needs
 
 enum-known-verdict : tie.Need-enum-known-verdict
 enum-known-verdict c = search needs
@@ -28,22 +37,31 @@ enum-told c = search needs
 returns-2 : tie.Need-returns-2
 unfolding refused
 returns-2 c =
-    let f = c .before .before .before .before in
-    rw (none-behind _ (f .before .if1 .left)) (c .refuse2 .ensures ∙ sym (checked-accepted _ (sym (c .before .before .verdict .given .1) ∙ f .first-clash .ensures)))
+    let v = c .before .before .before .before in
+    let clash = v .before in
+    let a = clash .before .before .before .before .args in
+    let verdict = sym (c .before .before .verdict .given .1) ∙ v .or-else .ensures ∙ ap₂ orElse (clash .before .outputs-verdict .ensures) (clash .first-clash .ensures) in
+    c .refuse2 .ensures ∙ sym (judged-here (a .k) (a .t) (a .rest .now) (clash .before .before .if1 .left) verdict)
 
 returns-3 : tie.Need-returns-3
 unfolding refused
 returns-3 c =
-    let f = c .before .before in
-    rw (none-behind _ (f .before .if1 .left)) (sym (checked-accepted _ (sym (c .enum-told .given .1) ∙ f .first-clash .ensures)))
+    let v = c .before .before in
+    let clash = v .before in
+    let a = clash .before .before .before .before .args in
+    let verdict = sym (c .enum-told .given .1) ∙ v .or-else .ensures ∙ ap₂ orElse (clash .before .outputs-verdict .ensures) (clash .first-clash .ensures) in
+    sym (judged-here (a .k) (a .t) (a .rest .now) (clash .before .before .if1 .left) verdict)
 
 pub finish-spec : {M : Type 1} → statement M
 finish-spec =
     tie.close
     (tie.spec
+    add-refuse
     refuse-requires
     returns
+    outputs-verdict-requires
     first-clash-requires
+    or-else-requires
     enum-known-verdict
     refuse-requires-2
     enum-told

@@ -1,19 +1,21 @@
 -- `read_listing::read_lines` meets its contract: the lines from number k on, behind those that made t, say what all the lines say.
-use mathlib.Core.Path.{_≡_, sym, ap, _∙_}
+use mathlib.Core.Path.{_≡_, sym, ap, _∙_, subst}
 use mathlib.Core.Logic.{⊎-elim}
 use Prim.Native.Nat.{_+_, _-_, _≤_, _<_}
 use native.Mathlib.Omega.{arith}
 use lib.ListN.{length, drop}
 use borrow.Author.Needs.{needs}
-use Rattle.rules.specs.Limits.{most-rows, most-dichotomies}
+use Rattle.rules.specs.Limits.{most-states, most-rows, most-dichotomies}
 use Rattle.rules.specs.Text.{lf, linesOf}
 use Rattle.rules.specs.Listing.{blank, readLines, checked}
 use Rattle.rules.specs.declared.Listing.{Listing}
+use Rattle.rules.specs.declared.Pattern.{Pattern}
 use Rattle.rules.specs.declared.Reading.{Reading}
+use Rattle.rules.specs.declared.StateNumber.{StateNumber}
 use Rattle.read_pieces.proofs.Laws.{Cut, cut-of}
 use Rattle.read_listing.specs.declared.says.Said.{Said}
 use Rattle.read_listing.specs.Says.{stepOf}
-use Rattle.read_listing.proofs.Room.{said-room}
+use Rattle.read_listing.proofs.Room.{Few, blank-few, said-room, outputs-done}
 use Rattle.read_listing.proofs.Ends.{ended-is, checked-unended}
 use Rattle.read_listing.proofs.Whole.{checked-refused}
 use Rattle.read_listing.proofs.Steps.{behind, read-line, read-last}
@@ -21,7 +23,7 @@ use Rattle.read_listing.proofs.read_lines.Statement.{statement}
 use Rattle.read_listing.proofs.read_lines.Tie as tie
 
 abbrev Inv-loop : tie.InvT-loop
-Inv-loop s t₀ k₀ at₀ end₀ t k at end = Cut lf s at end × (k ≤ at + 1) × (readLines k t (linesOf (drop at s)) ≡ readLines 1 blank (linesOf s))
+Inv-loop s t₀ k₀ at₀ end₀ t k at end = Cut lf s at end × (k ≤ at + 1) × (readLines k t (linesOf (drop at s)) ≡ readLines 1 blank (linesOf s)) × Few t
 
 abbrev μ-loop : tie.MeasureT-loop
 μ-loop s t₀ k₀ at₀ end₀ t k at end = length s - at
@@ -35,7 +37,8 @@ cut-requires c κs = search needs
 loop-holds : tie.Need-loop-holds Inv-loop μ-loop
 loop-holds c =
     let s = c .before .before .before .args .s .now in
-    (cut-of _ _ 0 (omega arith) (c .cut .ensures), search needs, ap (λ (t : Listing). readLines 1 t (linesOf s)) (c .before .blank-listing .ensures))
+    let b = c .before .blank-listing .ensures in
+    (cut-of _ _ 0 (omega arith) (c .cut .ensures), search needs, ap (λ (t : Listing). readLines 1 t (linesOf s)) b, blank-few b)
 
 sub-line-said : tie.Need-sub-line-said Inv-loop μ-loop
 sub-line-said c = search needs
@@ -72,9 +75,6 @@ returns c = c .refuse .ensures ∙ sym (checked-refused _ _) ∙ ap checked (all
 
 enum-told : tie.Need-enum-told Inv-loop μ-loop
 enum-told c = search needs
-
-add-finish : tie.Need-add-finish Inv-loop μ-loop
-add-finish c = search needs
 
 sub-finish : tie.Need-sub-finish Inv-loop μ-loop
 sub-finish c = search needs
@@ -135,6 +135,24 @@ element-set-from-d c = dichotomy-room c
 add-t-2 : tie.Need-add-t-2 Inv-loop μ-loop
 add-t-2 c = omega (arith, dichotomy-room c)
 
+enum-known-said-5 : tie.Need-enum-known-said-5 Inv-loop μ-loop
+enum-known-said-5 c = search needs
+
+-- and a state is one of those that there is room for
+state-room : (d : tie.After-line-said Inv-loop μ-loop) {s : StateNumber} {p : Pattern} → d .line-said .result ≡ Said.Outputs s p → s .0 < most-states
+state-room d e =
+    let l = d .before .before .before .before .loop in
+    omega (arith, said-room (l .k) (l .t) _ (sym (d .line-said .ensures) ∙ e), l .inv .3)
+
+mul-p : tie.Need-mul-p Inv-loop μ-loop
+mul-p c = omega (arith, state-room (c .before .before .before) (c .before .said5 .given .1))
+
+element-set-from-p : tie.Need-element-set-from-p Inv-loop μ-loop
+element-set-from-p c = state-room (c .before .before .before) (c .before .said5 .given .1)
+
+shl-t : tie.Need-shl-t Inv-loop μ-loop
+shl-t c = state-room (c .before .before .before) (c .before .said5 .given .1)
+
 add-k : tie.Need-add-k Inv-loop μ-loop
 add-k c = search needs
 
@@ -154,7 +172,12 @@ loop-again c =
       omega arith,
       ⊎-elim
           (λ w. ap next (w .3) ∙ all-lines d (w .1 .given .1))
-          (⊎-elim (λ w. ap next (w .3) ∙ all-lines d (w .1 .given .1)) (λ w. ap next (w .3) ∙ all-lines d (w .1 .given .1)))
+          (⊎-elim (λ w. ap next (w .3) ∙ all-lines d (w .1 .given .1))
+          (⊎-elim (λ w. ap next (w .3) ∙ all-lines d (w .1 .given .1)) (λ w. ap next (w .3 ∙ outputs-done (l .t) _ _ (state-room d (w .1 .given .1))) ∙ all-lines d (w .1 .given .1))))
+          (c .before .match .came),
+      ⊎-elim
+          (λ w. subst Few (sym (w .3)) (said-room (l .k) (l .t) _ (sym (d .line-said .ensures) ∙ w .1 .given .1)))
+          (⊎-elim (λ w. subst Few (sym (w .3)) (l .inv .3)) (⊎-elim (λ w. subst Few (sym (w .3)) (l .inv .3)) (λ w. subst Few (sym (w .3)) (l .inv .3))))
           (c .before .match .came),
     )
 
@@ -172,8 +195,8 @@ break-off-requires c κs = search needs
 
 returns-3 : tie.Need-returns-3 Inv-loop μ-loop
 returns-3 c =
-    let l = c .before .before .before .loop in
-    c .break-off .ensures ∙ sym (checked-unended (l .k) _) ∙ ap checked (sym (read-last (l .k) (l .t) _ (l .at) (l .end) (l .inv .0) (omega arith)) ∙ l .inv .2)
+    let l = c .before .before .before .before .loop in
+    c .break-off .ensures ∙ sym (checked-unended (l .k) (l .t .head) (l .t .given) _) ∙ ap checked (sym (read-last (l .k) (l .t) _ (l .at) (l .end) (l .inv .0) (omega arith)) ∙ l .inv .2)
 
 pub read-lines-spec : {M : Type 1} → statement M
 read-lines-spec =
@@ -193,7 +216,6 @@ read-lines-spec =
     refuse-requires
     returns
     enum-told
-    add-finish
     sub-finish
     part-finish-start
     part-finish-end
@@ -208,6 +230,10 @@ read-lines-spec =
     mul-d
     element-set-from-d
     add-t-2
+    enum-known-said-5
+    mul-p
+    element-set-from-p
+    shl-t
     add-k
     cut-requires-2
     loop-less

@@ -2,7 +2,7 @@
 use mathlib.Core.Path.{refl, sym, ap, _∙_}
 use native.Mathlib.Omega.{arith}
 use borrow.Author.Needs.{needs}
-use Rattle.rules.specs.Limits.{most-inputs, most-outputs}
+use Rattle.rules.specs.Limits.{most-inputs}
 use Rattle.rules.specs.Lines.{rowChecked}
 use Rattle.read_fields.proofs.Sets.{pattern-read, pattern-none}
 use Rattle.read_lines.proofs.row.Laws.{set-read, set-none, read-each}
@@ -20,7 +20,7 @@ enum-told c = search needs
 
 returns : tie.Need-returns
 returns c =
-    sym (read-each _ _ _ _ _ _ _ (pattern-none most-inputs _ _ (omega arith) (sym (c .before .before .pattern-in .ensures) ∙ c .enum-told .given .1)) refl refl refl)
+    sym (read-each _ _ _ _ _ _ _ (pattern-none most-inputs _ _ (omega arith) (sym (c .before .before .pattern-in .ensures) ∙ c .enum-told .given .1)) refl refl)
 
 states-in-requires : tie.Need-states-in-requires
 states-in-requires c κs = search needs
@@ -35,7 +35,7 @@ returns-2 : tie.Need-returns-2
 returns-2 c =
     let i = c .before .before .before .before in
     let fit1 = pattern-read most-inputs _ _ (omega arith) (sym (i .before .before .pattern-in .ensures) ∙ i .asked .given .1) in
-    sym (read-each _ _ _ _ _ _ _ (fit1 .0) (set-none _ _ (sym (c .before .before .states-in .ensures) ∙ c .enum-told2 .given .1)) refl refl)
+    sym (read-each _ _ _ _ _ _ _ (fit1 .0) (set-none _ _ (sym (c .before .before .states-in .ensures) ∙ c .enum-told2 .given .1)) refl)
 
 states-in-requires-2 : tie.Need-states-in-requires-2
 states-in-requires-2 c κs = search needs
@@ -52,45 +52,23 @@ returns-3 c =
     let i = g .before .before .before .before in
     let fit1 = pattern-read most-inputs _ _ (omega arith) (sym (i .before .before .pattern-in .ensures) ∙ i .asked .given .1) in
     let fit2 = set-read _ _ (sym (g .before .before .states-in .ensures) ∙ g .states .given .1) in
-    sym (read-each _ _ _ _ _ _ _ (fit1 .0) (fit2 .0) (set-none _ _ (sym (c .before .before .states-in2 .ensures) ∙ c .enum-told3 .given .1)) refl)
-
-pattern-in-requires-2 : tie.Need-pattern-in-requires-2
-pattern-in-requires-2 c κs = search needs
-
-enum-known-given : tie.Need-enum-known-given
-enum-known-given c = search needs
-
-enum-told-4 : tie.Need-enum-told-4
-enum-told-4 c = search needs
-
-returns-4 : tie.Need-returns-4
-returns-4 c =
-    let n = c .before .before .before .before in
-    let g = n .before .before .before .before in
-    let i = g .before .before .before .before in
-    let fit1 = pattern-read most-inputs _ _ (omega arith) (sym (i .before .before .pattern-in .ensures) ∙ i .asked .given .1) in
-    let fit2 = set-read _ _ (sym (g .before .before .states-in .ensures) ∙ g .states .given .1) in
-    let fit3 = set-read _ _ (sym (n .before .before .states-in2 .ensures) ∙ n .named .given .1) in
-    let unfit4 = pattern-none most-outputs _ _ (omega arith) (sym (c .before .before .pattern-in2 .ensures) ∙ c .enum-told4 .given .1) in
-    sym (read-each _ _ _ _ _ _ _ (fit1 .0) (fit2 .0) (fit3 .0) unfit4)
+    sym (read-each _ _ _ _ _ _ _ (fit1 .0) (fit2 .0) (set-none _ _ (sym (c .before .before .states-in2 .ensures) ∙ c .enum-told3 .given .1)))
 
 row-checked-requires : tie.Need-row-checked-requires
 row-checked-requires c κs = search needs
 
-returns-5 : tie.Need-returns-5
-returns-5 c =
-    let o = c .before .before in
-    let n = o .before .before .before .before in
+returns-4 : tie.Need-returns-4
+returns-4 c =
+    let n = c .before .before in
     let g = n .before .before .before .before in
     let i = g .before .before .before .before in
-    let a = i .before .before .before .before .before .before .before .args in
+    let a = i .before .before .before .before .before .before .args in
     let fit1 = pattern-read most-inputs _ _ (omega arith) (sym (i .before .before .pattern-in .ensures) ∙ i .asked .given .1) in
     let fit2 = set-read _ _ (sym (g .before .before .states-in .ensures) ∙ g .states .given .1) in
     let fit3 = set-read _ _ (sym (n .before .before .states-in2 .ensures) ∙ n .named .given .1) in
-    let fit4 = pattern-read most-outputs _ _ (omega arith) (sym (o .before .before .pattern-in2 .ensures) ∙ o .given .given .1) in
     c .row-checked .ensures
-    ∙ ap (rowChecked (a .count)) (λ j. record { input = fit1 .1 j; group = fit2 .1 j; next = fit3 .1 j; outputs = fit4 .1 j; line = a .line })
-    ∙ sym (read-each _ _ _ _ _ _ _ (fit1 .0) (fit2 .0) (fit3 .0) (fit4 .0))
+    ∙ ap (rowChecked (a .count)) (λ j. record { input = fit1 .1 j; group = fit2 .1 j; next = fit3 .1 j; outputs = a .outputs; line = a .line })
+    ∙ sym (read-each _ _ _ _ _ _ _ (fit1 .0) (fit2 .0) (fit3 .0))
 
 pub row-read-spec : {M : Type 1} → statement M
 row-read-spec =
@@ -108,9 +86,5 @@ row-read-spec =
     enum-known-named
     enum-told-3
     returns-3
-    pattern-in-requires-2
-    enum-known-given
-    enum-told-4
-    returns-4
     row-checked-requires
-    returns-5)
+    returns-4)

@@ -2,7 +2,7 @@
 use mathlib.Core.Path.{sym, _∙_}
 use borrow.Author.Needs.{needs}
 use borrow.Author.Tests.{not-true, not-false}
-use Rattle.read_lines.proofs.row.Laws.{rest-first, rest-second, rest-third, rest-fields}
+use Rattle.read_lines.proofs.row.Laws.{rest-first, rest-second, rest-moore, rest-mealy}
 use Rattle.read_lines.proofs.row.row_rest.Statement.{statement}
 use Rattle.read_lines.proofs.row.row_rest.Tie as tie
 
@@ -19,18 +19,13 @@ stands-at-requires-2 : tie.Need-stands-at-requires-2
 stands-at-requires-2 c κs = search needs
 
 returns-2 : tie.Need-returns-2
-returns-2 c = sym (rest-second _ _ _ _ (c .before .before .behind .ensures) (sym (c .before .stands-at2 .ensures) ∙ not-true _ (c .if2 .taken)))
+returns-2 c =
+    let u = c .before .before in
+    let p = sym (u .before .before .stands-at .ensures) ∙ not-false _ (u .before .if1 .left) in
+    sym (rest-second _ _ _ _ p (u .behind .ensures) (sym (c .before .stands-at2 .ensures) ∙ not-true _ (c .if2 .taken)))
 
 behind-requires-2 : tie.Need-behind-requires-2
 behind-requires-2 c κs = search needs
-
-stands-at-requires-3 : tie.Need-stands-at-requires-3
-stands-at-requires-3 c κs = search needs
-
-returns-3 : tie.Need-returns-3
-returns-3 c =
-    let u = c .before .before .before .before .before in
-    sym (rest-third _ _ _ _ (u .behind .ensures) (c .before .before .behind2 .ensures) (sym (c .before .stands-at3 .ensures) ∙ not-true _ (c .if3 .taken)))
 
 first-of-requires : tie.Need-first-of-requires
 first-of-requires c κs = search needs
@@ -38,27 +33,31 @@ first-of-requires c κs = search needs
 first-of-requires-2 : tie.Need-first-of-requires-2
 first-of-requires-2 c κs = search needs
 
-first-of-requires-3 : tie.Need-first-of-requires-3
-first-of-requires-3 c κs = search needs
-
-behind-requires-3 : tie.Need-behind-requires-3
-behind-requires-3 c κs = search needs
-
 row-read-requires : tie.Need-row-read-requires
 row-read-requires c κs = search needs
 
-returns-4 : tie.Need-returns-4
-returns-4 c =
-    let g = c .before .before .before in
-    let s = g .before .before in
-    let v = s .before .before in
+returns-3 : tie.Need-returns-3
+returns-3 c =
+    let g = c .before .before in
+    let v = g .before .before in
     let u = v .before .before .before in
     let p = sym (u .before .before .stands-at .ensures) ∙ not-false _ (u .before .if1 .left) in
     let q = sym (v .before .before .stands-at2 .ensures) ∙ not-false _ (v .before .if2 .left) in
-    let r = sym (s .before .stands-at3 .ensures) ∙ not-false _ (s .if3 .left) in
     c .row-read .ensures
-    ∙ sym (rest-fields _ _ _ _ (u .behind .ensures) (v .behind2 .ensures) p q r
-    (g .before .first-of .ensures) (g .first-of2 .ensures) (c .before .before .first-of3 .ensures) (c .before .behind3 .ensures))
+    ∙ sym (rest-moore _ _ _ _ p (u .behind .ensures) q (v .behind2 .ensures) (g .before .first-of .ensures) (g .first-of2 .ensures) (c .before .if3 .taken))
+
+row-end-requires : tie.Need-row-end-requires
+row-end-requires c κs = search needs
+
+returns-4 : tie.Need-returns-4
+returns-4 c =
+    let g = c .before .before in
+    let v = g .before .before in
+    let u = v .before .before .before in
+    let p = sym (u .before .before .stands-at .ensures) ∙ not-false _ (u .before .if1 .left) in
+    let q = sym (v .before .before .stands-at2 .ensures) ∙ not-false _ (v .before .if2 .left) in
+    c .row-end .ensures
+    ∙ sym (rest-mealy _ _ _ _ p (u .behind .ensures) q (v .behind2 .ensures) (g .before .first-of .ensures) (g .first-of2 .ensures) (c .before .if3 .left))
 
 pub row-rest-spec : {M : Type 1} → statement M
 row-rest-spec =
@@ -70,11 +69,9 @@ row-rest-spec =
     stands-at-requires-2
     returns-2
     behind-requires-2
-    stands-at-requires-3
-    returns-3
     first-of-requires
     first-of-requires-2
-    first-of-requires-3
-    behind-requires-3
     row-read-requires
+    returns-3
+    row-end-requires
     returns-4)

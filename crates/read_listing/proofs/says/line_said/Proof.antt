@@ -1,28 +1,30 @@
 -- `says::line_said` meets its contract.
-use mathlib.Core.Path.{_∙_}
+use mathlib.Core.Path.{sym, _∙_}
 use borrow.Author.Needs.{needs}
-use borrow.Author.Tests.{eq-eqb, ne-eqb}
-use Rattle.read_listing.specs.Says.{lineSays}
+use borrow.Author.Tests.{not-true, not-false}
+use Rattle.read_listing.proofs.Saying.{says-placed}
 use Rattle.read_listing.proofs.says.line_said.Statement.{statement}
 use Rattle.read_listing.proofs.says.line_said.Tie as tie
 
 mark-of-requires : tie.Need-mark-of-requires
 mark-of-requires c κs = search needs
 
-first-said-requires : tie.Need-first-said-requires
-first-said-requires c κs = search needs
+in-place-requires : tie.Need-in-place-requires
+in-place-requires c κs = search needs
 
 returns : tie.Need-returns
-unfolding lineSays
-returns c = c .first-said .ensures ∙ rw (eq-eqb _ _ (c .before .if1 .taken), c .before .before .mark-of .ensures)
+returns c =
+    let m = c .before .before .mark-of .ensures in
+    sym (says-placed _ _ _ _ _ _ m (sym (c .before .in-place .ensures) ∙ not-true _ (c .if1 .taken)))
 
-later-said-requires : tie.Need-later-said-requires
-later-said-requires c κs = search needs
+placed-said-requires : tie.Need-placed-said-requires
+placed-said-requires c κs = search needs
 
 returns-2 : tie.Need-returns-2
-unfolding lineSays
-returns-2 c = c .later-said .ensures ∙ rw (ne-eqb _ _ (c .before .if1 .left), c .before .before .mark-of .ensures)
+returns-2 c =
+    let m = c .before .before .before .mark-of .ensures in
+    c .placed-said .ensures ∙ sym (says-placed _ _ _ _ _ _ m (sym (c .before .before .in-place .ensures) ∙ not-false _ (c .before .if1 .left)))
 
 pub line-said-spec : {M : Type 1} → statement M
 line-said-spec =
-    tie.close (tie.spec mark-of-requires first-said-requires returns later-said-requires returns-2)
+    tie.close (tie.spec mark-of-requires in-place-requires returns placed-said-requires returns-2)
