@@ -1,6 +1,6 @@
 /* The known answers of 01 that are whole listings: P1 to P4, P9, P10, 128 and 129 rows, and the 64 dichotomies; what 02 says of
-   dashes in the outputs (request 02), of rows that say nothing (request 07) and of Moore machines (request 13); and parts of P1's
-   report and cover, worked by hand. */
+   dashes in the outputs (request 02), of rows that say nothing (request 07), of Moore machines (request 13) and of flow tables
+   (request 05); and parts of P1's report and cover, worked by hand. */
 #include "known.h"
 
 /* What an entry must answer: a text, or, where that is NULL, a number; the widths have the number of the report. */
@@ -99,6 +99,46 @@ static const struct known known[] = {
     {"a dichotomy of a Moore machine", "MO 2 1 1 0\nOU 0 1\nDI ++\nOU 1 -\nEN\n",
      "CT 2 2 0 2 6\nSC 0 00\nSC 1 10\nBY 0 0\nBY 1 1\nEN\n", 0,
      ".i 3\n.o 3\n.type fd\n.p 2\n-00 001\n-10 00-\n.e\n", 0, "WD 1 1 1\nWD 2 0 1\nEN\n"},
+    /* 02, request 05. Table III of 001: "column 00: ({s1},{s2,s3,s4}); column 01: ({s1,s2,s3},{s4}); column 11: ({s1,s3},{s2,s4});
+       column 10: ({s1},{s3}), ({s1},{s2,s4}), ({s3},{s2,s4})", those of the last column in our order, which is by lowest member;
+       they are requirements 6 to 11, and the same as dichotomies of the designer's. */
+    {"Table III", "MC 4 2 1 0\nFT 0 1 0 0\nFT 2 1 1 3\nFT 2 1 0 2\nFT 2 3 1 3\nEN\n",
+     "CT 4 12 0 6 104\nSC 0 0000\nSC 1 1110\nSC 2 0110\nSC 3 1011\nBY 0 0\nBY 1 1\nBY 2 0\nBY 3 0\nBY 4 1\nBY 5 0\n"
+     "BY 6 2\nBY 7 3\nBY 8 0\nBY 9 0\nBY 10 1\nBY 11 0\nEN\n", 0,
+     ".i 6\n.o 5\n.type fd\n.p 0\n.e\n", 0, "WD 1 5 0\nWD 2 2 1\nWD 3 1 1\nWD 4 0 1\nEN\n"},
+    {"Table III's dichotomies", "MC 4 2 1 0\nDI +---\nDI +++-\nDI +-+-\nDI +-.-\nDI +.-.\nDI .+-+\nEN\n",
+     "CT 4 12 0 6 104\nSC 0 0000\nSC 1 1110\nSC 2 0110\nSC 3 1011\nBY 0 0\nBY 1 1\nBY 2 0\nBY 3 0\nBY 4 1\nBY 5 0\n"
+     "BY 6 2\nBY 7 3\nBY 8 0\nBY 9 0\nBY 10 1\nBY 11 0\nEN\n", 0,
+     ".i 6\n.o 5\n.type fd\n.p 0\n.e\n", 0, "WD 1 5 0\nWD 2 2 1\nWD 3 1 1\nWD 4 0 1\nEN\n"},
+    {"Table III, two bits", "MC 4 2 1 2\nFT 0 1 0 0\nFT 2 1 1 3\nFT 2 1 0 2\nFT 2 3 1 3\nEN\n",
+     "CT 2 12 2 4 92\nSC 0 00\nSC 1 11\nSC 2 01\nSC 3 10\nBY 0 0\nBY 1 1\nBY 2 0\nBY 3 0\nBY 4 1\nBY 5 0\n"
+     "BY 8 0\nBY 9 0\nBY 10 1\nBY 11 0\nUN 6\nUN 7\nEN\n", 0,
+     ".i 4\n.o 3\n.type fd\n.p 0\n.e\n", 0, "WD 1 5 0\nWD 2 2 1\nWD 3 1 1\nWD 4 0 1\nEN\n"},
+    {"a four-phase handshake", "MC 4 2 2 0\nFT 0 - - 1\nFT - - 2 1\nFT - - 2 3\nFT 0 - - 3\nEN\n",
+     "CT 2 7 0 4 40\nSC 0 00\nSC 1 01\nSC 2 11\nSC 3 10\nBY 0 1\nBY 1 0\nBY 2 0\nBY 3 0\nBY 4 0\nBY 5 1\nBY 6 0\nEN\n", 0,
+     ".i 4\n.o 4\n.type fd\n.p 0\n.e\n", 0, "WD 1 2 0\nWD 2 0 1\nEN\n"},
+    {"equal dichotomies of two columns", "MC 2 2 1 0\nFT 0 0 1 0\nFT 0 1 1 1\nEN\n",
+     "CT 1 3 0 1 6\nSC 0 0\nSC 1 1\nBY 0 0\nBY 1 0\nBY 2 0\nEN\n", 0,
+     ".i 3\n.o 2\n.type fd\n.p 0\n.e\n", 0, "WD 1 0 1\nEN\n"},
+    {"a flow table of one state", "MC 1 1 1 0\nFT 0\nEN\n",
+     "CT 0 0 0 0 0\nSC 0 -\nEN\n", 0,
+     ".i 1\n.o 1\n.type fd\n.p 0\n.e\n", 0, "EN\n"},
+    {"a flow table of dashes, with a fifth number", "MC 2 1 1 0 1\nFT - -\nFT - -\nEN\n",
+     "CT 1 1 0 1 2\nSC 0 0\nSC 1 1\nBY 0 0\nEN\n", 0,
+     ".i 2\n.o 2\n.type fd\n.p 0\n.e\n", 0, "WD 1 0 1\nEN\n"},
+    {"a dash in no set", "MC 3 1 1 0\nFT 0\nFT -\nFT 2\nEN\n",
+     "CT 2 4 0 3 18\nSC 0 00\nSC 1 01\nSC 2 10\nBY 0 1\nBY 1 0\nBY 2 0\nBY 3 0\nEN\n", 0,
+     ".i 3\n.o 3\n.type fd\n.p 0\n.e\n", 0, "WD 1 1 0\nWD 2 0 1\nEN\n"},
+    {"sets by lowest member", "MC 4 1 1 0\nFT 3\nFT 1\nFT 2\nFT 3\nEN\n",
+     "CT 2 9 0 4 52\nSC 0 00\nSC 1 11\nSC 2 10\nSC 3 01\nBY 0 0\nBY 1 0\nBY 2 1\nBY 3 1\nBY 4 0\nBY 5 0\nBY 6 0\nBY 7 0\n"
+     "BY 8 1\nEN\n", 0,
+     ".i 3\n.o 3\n.type fd\n.p 0\n.e\n", 0, "WD 1 3 0\nWD 2 0 1\nEN\n"},
+    {"columns left to right", "MC 3 1 1 0\nFT 0 0\nFT 1 0\nFT 0 2\nEN\n",
+     "CT 2 5 0 2 17\nSC 0 00\nSC 1 10\nSC 2 01\nBY 0 0\nBY 1 1\nBY 2 0\nBY 3 0\nBY 4 1\nEN\n", 0,
+     ".i 3\n.o 3\n.type fd\n.p 0\n.e\n", 0, "WD 1 2 0\nWD 2 0 1\nEN\n"},
+    {"Table III, one bit", "MC 4 2 1 1\nFT 0 1 0 0\nFT 2 1 1 3\nFT 2 1 0 2\nFT 2 3 1 3\nEN\n",
+     "CT 1 12 5 2 64\nSC 0 0\nSC 1 1\nSC 2 0\nSC 3 1\nBY 0 0\nBY 2 0\nBY 3 0\nBY 5 0\nBY 8 0\nBY 9 0\nBY 11 0\n"
+     "UN 1\nUN 4\nUN 6\nUN 7\nUN 10\nEN\n", 0, NULL, -900000, "WD 1 5 0\nWD 2 2 1\nWD 3 1 1\nWD 4 0 1\nEN\n"},
     {"a fifth number above 1", "MC 3 1 1 0 2\nEN\n", NULL, -200001, NULL, -200001, NULL},
     {"a fifth number 01", "MC 3 1 1 0 01\nEN\n", NULL, -100001, NULL, -100001, NULL},
     {"an empty fifth field", "MC 3 1 1 0 \nEN\n", NULL, -100001, NULL, -100001, NULL},
@@ -113,7 +153,7 @@ static const struct known known[] = {
     {"width 65", "MC 64 1 1 65\nEN\n", NULL, -200001, NULL, -200001, NULL},
 };
 
-/* Listings that every entry refuses: 02, request 13, and reading 29. */
+/* Listings that every entry refuses: 02, request 13, and reading 29; request 05, and reading 23. */
 static const struct {
     const char *name;
     const char *listing;
@@ -184,6 +224,82 @@ static const struct {
     {"no EN before 17", "MO 2 1 1 0\nOU 1 0\n", -300003},
     {"an EN without LF before 17", "MO 2 1 1 0\nOU 1 0\nEN", -100003},
     {"an EN with a field before 17", "MO 2 1 1 0\nOU 1 0\nEN 1\n", -100003},
+    {"an FT on line 1", "FT 0\nEN\n", -300001},
+    {"an FT alone", "MC 1 1 1 0\nFT\nEN\n", -100002},
+    {"an FT and a space", "MC 1 1 1 0\nFT \nEN\n", -100002},
+    {"17 columns", "MC 1 1 1 0\nFT - - - - - - - - - - - - - - - - -\nEN\n", -100002},
+    {"a mark that begins with FT", "MC 1 1 1 0\nFTX 0\nEN\n", -100002},
+    {"a column too few", "MC 2 1 1 0\nFT 0 0\nFT 1\nEN\n", -100003},
+    {"a column too many", "MC 2 1 1 0\nFT 0 0\nFT 1 0 0\nEN\n", -100003},
+    {"no column on a later line", "MC 2 1 1 0\nFT 0\nFT\nEN\n", -100003},
+    {"17 columns on a later line", "MC 2 1 1 0\nFT 0\nFT - - - - - - - - - - - - - - - - -\nEN\n", -100003},
+    {"a next state n", "MC 2 1 1 0\nFT 2\nFT 1\nEN\n", -100002},
+    {"a next state n on the last line", "MC 2 1 1 0\nFT 0 0\nFT 1 2\nEN\n", -100003},
+    {"a next state 64 of 64", "MC 64 1 1 0\nFT 64\nEN\n", -100002},
+    {"a next state 9999", "MC 2 1 1 0\nFT 9999\nEN\n", -100002},
+    {"a next state 00", "MC 2 1 1 0\nFT 00\nEN\n", -100002},
+    {"a next state 01", "MC 2 1 1 0\nFT 01\nEN\n", -100002},
+    {"a next state 10000", "MC 2 1 1 0\nFT 10000\nEN\n", -100002},
+    {"a next state -1", "MC 2 1 1 0\nFT -1\nEN\n", -100002},
+    {"a next state +1", "MC 2 1 1 0\nFT +1\nEN\n", -100002},
+    {"a next state x", "MC 2 1 1 0\nFT 0 x\nEN\n", -100002},
+    {"two dashes for one", "MC 2 1 1 0\nFT --\nEN\n", -100002},
+    {"a trailing space in a flow table", "MC 1 1 1 0\nFT 0 \nEN\n", -100002},
+    {"a doubled space in a flow table", "MC 1 1 1 0\nFT 0  0\nEN\n", -100002},
+    {"an FT without LF", "MC 2 1 1 0\nFT 0\nFT 1", -100003},
+    {"an FT without LF, no number", "MC 2 1 1 0\nFT x", -100002},
+    {"an FT behind a row", "MC 2 1 1 0\nPT 0 10 01 1\nFT 0\nFT 1\nEN\n", -300003},
+    {"an FT behind a row, malformed", "MC 2 1 1 0\nPT 0 10 01 1\nFT x\nEN\n", -300003},
+    {"an FT behind a row, alone", "MC 2 1 1 0\nPT 0 10 01 1\nFT\nEN\n", -300003},
+    {"an FT behind a row, without LF", "MC 2 1 1 0\nPT 0 10 01 1\nFT 0", -300003},
+    {"an FT behind a dichotomy", "MC 2 1 1 0\nDI +-\nFT 0\nFT 1\nEN\n", -300003},
+    {"an FT behind a dichotomy, malformed", "MC 2 1 1 0\nDI +-\nFT 2\nEN\n", -300003},
+    {"an FT behind a dichotomy, without LF", "MC 2 1 1 0\nDI +-\nFT", -300003},
+    {"a row behind an FT", "MC 2 1 1 0\nFT 0\nPT 0 10 01 1\nFT 1\nEN\n", -300003},
+    {"a row behind all FT", "MC 2 1 1 0\nFT 0\nFT 1\nPT 0 10 01 1\nEN\n", -300004},
+    {"a row behind an FT, malformed", "MC 2 1 1 0\nFT 0\nPT\nFT 1\nEN\n", -300003},
+    {"a row behind an FT, of an empty group", "MC 2 1 1 0\nFT 0\nPT 0 00 11 1\nEN\n", -300003},
+    {"a row behind an FT, without LF", "MC 2 1 1 0\nFT 0\nPT 0", -300003},
+    {"a dichotomy behind an FT", "MC 2 1 1 0\nFT 0\nDI +-\nFT 1\nEN\n", -300003},
+    {"a dichotomy behind all FT", "MC 2 1 1 0\nFT 0\nFT 1\nDI +-\nEN\n", -300004},
+    {"a dichotomy behind an FT, malformed", "MC 2 1 1 0\nFT 0\nDI x\nEN\n", -300003},
+    {"a dichotomy behind an FT, without LF", "MC 2 1 1 0\nFT 0\nDI", -300003},
+    {"an OU behind an FT", "MC 2 1 1 0\nFT 0\nOU 0 0\nFT 1\nEN\n", -300003},
+    {"an MC behind an FT", "MC 2 1 1 0\nFT 0\nMC 2 1 1 0\nEN\n", -300003},
+    {"an unknown mark behind an FT", "MC 2 1 1 0\nFT 0\nXX\nEN\n", -100003},
+    {"a malformed row before an FT", "MC 2 1 1 0\nPT\nFT 0\nEN\n", -100002},
+    {"a malformed FT before a row", "MC 2 1 1 0\nFT x\nPT 0 10 01 1\nEN\n", -100002},
+    {"an FT too many", "MC 1 1 1 0\nFT 0\nFT 0\nEN\n", -300003},
+    {"an FT too many, alone", "MC 1 1 1 0\nFT 0\nFT\nEN\n", -300003},
+    {"an FT too many, no number", "MC 1 1 1 0\nFT 0\nFT x\nEN\n", -300003},
+    {"an FT too many, a column more", "MC 1 1 1 0\nFT 0\nFT 0 0\nEN\n", -300003},
+    {"an FT too many, without LF", "MC 1 1 1 0\nFT 0\nFT 0", -300003},
+    {"an FT too few", "MC 2 1 1 0\nFT 0\nEN\n", -300003},
+    {"one FT of 64 states", "MC 64 1 1 0\nFT 0\nEN\n", -300003},
+    {"an FT too few, EN with a field", "MC 2 1 1 0\nFT 0\nEN 1\n", -300003},
+    {"an FT too few, EN with a space", "MC 2 1 1 0\nFT 0\nEN \n", -300003},
+    {"an FT too few, EN without LF", "MC 2 1 1 0\nFT 0\nEN", -300003},
+    {"an FT too few, no EN", "MC 3 1 1 0\nFT 0\nFT 0\n", -300004},
+    {"an FT too few, an unknown mark", "MC 2 1 1 0\nFT 0\nENX\n", -100003},
+    {"an FT too few before 13", "MC 3 1 1 0\nFT 1\nFT 0\nEN\n", -300004},
+    {"an EN with a field behind all FT", "MC 1 1 1 0\nFT 0\nEN 1\n", -100003},
+    {"an EN without LF behind all FT", "MC 1 1 1 0\nFT 0\nEN", -100003},
+    {"an FT under MO", "MO 1 1 1 0\nFT 0\nOU 0 0\nEN\n", -300002},
+    {"an FT under MO, behind an OU", "MO 1 1 1 0\nOU 0 0\nFT 0\nEN\n", -300003},
+    {"an FT under MO, malformed", "MO 1 1 1 0\nFT\nOU 0 0\nEN\n", -300002},
+    {"an FT under MO, without LF", "MO 1 1 1 0\nFT 0", -300002},
+    {"a destination that goes elsewhere", "MC 2 1 1 0\nFT 1\nFT 0\nEN\n", -1300002},
+    {"a destination that is a dash", "MC 3 1 1 0\nFT 0\nFT 2\nFT -\nEN\n", -1300003},
+    {"a destination on an earlier line", "MC 3 1 1 0\nFT -\nFT 1\nFT 0\nEN\n", -1300004},
+    {"a destination stable in another column", "MC 2 1 1 0\nFT 0 1\nFT 1 0\nEN\n", -1300002},
+    {"a destination on the way to another", "MC 3 1 1 0\nFT 1\nFT 2\nFT 2\nEN\n", -1300002},
+    {"the lowest line, whatever the column", "MC 3 1 1 0\nFT 0 1\nFT - -\nFT 1 2\nEN\n", -1300002},
+    {"the lowest of three lines", "MC 4 1 1 0\nFT 0\nFT 2\nFT -\nFT 2\nEN\n", -1300003},
+    {"bytes after EN before 13", "MC 2 1 1 0\nFT 1\nFT 0\nEN\n\n", -300005},
+    {"no EN before 13", "MC 2 1 1 0\nFT 1\nFT 0\n", -300004},
+    {"an EN without LF before 13", "MC 2 1 1 0\nFT 1\nFT 0\nEN", -100004},
+    {"an FT too many before 13", "MC 2 1 1 0\nFT 1\nFT 0\nFT 0\nEN\n", -300004},
+    {"a bad line before 13", "MC 2 1 1 0\nFT 1\nFT x\nEN\n", -100003},
 };
 
 /* What is left of P1's report, which has 76 bytes, or of its cover, which has 35, lent so much room: a text, or, where that is
@@ -242,6 +358,8 @@ static const struct refused_part {
     {"MC 65 1 1 0\nEN\n", false, -200001},
     {"MO 2 1 1 0\nOU 1 0\nEN\n", false, -1700003},
     {"MO 2 1 1 0\nOU 1 0\nEN\n", true, -1700003},
+    {"MC 2 1 1 0\nFT 1\nFT 0\nEN\n", false, -1300002},
+    {"MC 2 1 1 0\nFT 1\nFT 0\nEN\n", true, -1300002},
 };
 
 static uint8_t listing[32768];
@@ -354,6 +472,38 @@ static void make_longest(void)
     put("EN\n");
 }
 
+/* A flow table of four states: ten columns in which each is stable, so many in which states 0 to 2 go to state 0, and what stands
+   in the last field of each line. A column of the first sort has six dichotomies, one of the second has one. */
+#define FULL_COLUMNS 10
+
+static void make_flow(unsigned columns, const char *const *last)
+{
+    static const char *const stays[] = {" 0", " 1", " 2", " 3"};
+    length = 0;
+    put("MC 4 1 1 0\n");
+    for (unsigned state = 0; state < 4; state++) {
+        put("FT");
+        put_times(FULL_COLUMNS, stays[state]);
+        put_times(columns, state < 3 ? " 0" : " 3");
+        put(last == NULL ? "" : last[state]);
+        put("\n");
+    }
+    put("EN\n");
+}
+
+/* So many states that all go to state 0 in 16 columns, and so many lines. */
+static void make_wide_flow(const char *head, unsigned lines)
+{
+    length = 0;
+    put(head);
+    for (unsigned line = 0; line < lines; line++) {
+        put("FT");
+        put_times(16, " 0");
+        put("\n");
+    }
+    put("EN\n");
+}
+
 static bool starts(const char *name, const char *which, entry *run, const char *text)
 {
     int64_t answer = run(listing, length, out, sizeof out);
@@ -440,15 +590,46 @@ static unsigned run_longest(const struct entries *encoder)
            starts("the longest cover", "cover", encoder->cover, ".i 80\n.o 96\n.type fd\n.p 192\n----------------0");
 }
 
+static unsigned refuses_all(const struct entries *encoder, const char *name, int64_t number)
+{
+    return answers(name, "report", encoder->report, NULL, number) + answers(name, "cover", encoder->cover, NULL, number) +
+           answers(name, "widths", encoder->widths, NULL, number);
+}
+
+/* 64 dichotomies of a flow table, and 65; what comes before the latter; 64 states and 16 columns. */
+#define FLOW_CHECKS 19
+
+static unsigned run_flow(const struct entries *encoder)
+{
+    static const char *const unstable[] = {" 0", " 0", " 1", " 3"};
+    unsigned right = 0;
+    make_flow(4, NULL);
+    right += starts("64 dichotomies of a flow table", "report", encoder->report, "CT 3 70 0 ");
+    right += starts("64 dichotomies of a flow table", "cover", encoder->cover, ".i 4\n.o 4\n.type fd\n.p 0\n.e\n");
+    make_flow(5, NULL);
+    right += refuses_all(encoder, "65 dichotomies of a flow table", -200000);
+    make_flow(6, NULL);
+    right += refuses_all(encoder, "66 dichotomies of a flow table", -200000);
+    make_flow(5, unstable);
+    right += refuses_all(encoder, "13 before 65 dichotomies", -1300004);
+    make_flow(6, NULL);
+    put("\n");
+    right += refuses_all(encoder, "bytes after EN before 66 dichotomies", -300007);
+    make_wide_flow("MC 64 1 1 0\n", 64);
+    right += starts("a flow table of 64 states", "report", encoder->report, "CT 6 2016 0 ");
+    right += starts("a flow table of 64 states", "cover", encoder->cover, ".i 7\n.o 7\n.type fd\n.p 0\n.e\n");
+    make_wide_flow("MC 64 1 1 0\n", 65);
+    right += refuses_all(encoder, "the 65th line of a flow table", -300066);
+    return right;
+}
+
 static unsigned run_refused(const struct entries *encoder)
 {
     unsigned right = 0;
     for (unsigned at = 0; at < LENGTH_OF(refused); at++) {
         length = 0;
         put(refused[at].listing);
-        right += answers(refused[at].name, "report", encoder->report, NULL, refused[at].number);
-        right += answers(refused[at].name, "cover", encoder->cover, NULL, refused[at].number);
-        right += answers(refused[at].name, "widths", encoder->widths, NULL, refused[at].number);
+        right += refuses_all(encoder, refused[at].name, refused[at].number);
     }
     return right;
 }
@@ -500,6 +681,9 @@ unsigned known_run(const struct entries *encoder, unsigned *checks)
 
     right += run_longest(encoder);
     asked += 2;
+
+    right += run_flow(encoder);
+    asked += FLOW_CHECKS;
 
     make_dichotomies("MC 64 1 1 0\n", 64, by_parity);
     right += starts("64 dichotomies by parity", "widths", encoder->widths, "WD 1 1055 0\nWD 2 ");

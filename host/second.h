@@ -13,6 +13,9 @@
 #define SECOND_DICHOTOMIES 64
 #define SECOND_BYTES 65536
 
+/* 02, request 05: a flow table has "16 columns" at most, and as many states as any machine (request 09). */
+#define SECOND_COLUMNS 16
+
 /* 02, request 09: "Requirements may reach 2,016 + 7,936 + 64 = 10,016." */
 #define SECOND_REQUIREMENTS \
     (SECOND_STATES * (SECOND_STATES - 1) / 2 + SECOND_ROWS * (SECOND_STATES - 2) + SECOND_DICHOTOMIES)
@@ -27,7 +30,8 @@
    178, and the other lines together far fewer than 256. */
 #define SECOND_TEXT (SECOND_REQUIREMENTS * 12 + SECOND_STATES * 71 + SECOND_COVER_ROWS * 178 + 256)
 
-/* 01, "Refusal numbers", and 17 of 02's request 13. SECOND_FINE stands for no refusal; 8 is unused (02, request 06). */
+/* 01, "Refusal numbers", 13 of 02's request 05 and 17 of its request 13. SECOND_FINE stands for no refusal; 8 is unused (02,
+   request 06). */
 enum {
     SECOND_FINE = 0,
     SECOND_BAD_LINE = 1,
@@ -40,7 +44,8 @@ enum {
     SECOND_UNMET = 9,
     SECOND_NO_ROOM = 10,
     SECOND_BAD_CALL = 11,
-    SECOND_UNTOLD = 17 /* a state of a Moore machine without an `OU` line */
+    SECOND_UNSTABLE = 13, /* a destination of a flow table that is not stable in its column */
+    SECOND_UNTOLD = 17    /* a state of a Moore machine without an `OU` line */
 };
 
 struct second_refusal {
@@ -77,7 +82,10 @@ struct second_machine {
     unsigned rows;       /* those of the listing */
     unsigned cover_rows; /* and, behind them, of a Moore machine that is read, the one added for each state */
     struct second_row row[SECOND_COVER_ROWS];
-    unsigned dichotomies;
+    unsigned flow_lines; /* the `FT` lines read, those of states 0 and on; 0 if the machine is no flow table */
+    unsigned columns;    /* as many as the first of them has */
+    int flow[SECOND_STATES][SECOND_COLUMNS]; /* where a state goes in a column, or SECOND_NO_STATE for a dash */
+    unsigned dichotomies; /* those of `DI`, or of a flow table that is read */
     struct second_requirement dichotomy[SECOND_DICHOTOMIES];
 };
 

@@ -1,4 +1,4 @@
-/* The second encoder's reader: from a listing's bytes to a machine, or to the refusal (1 to 6, and 17) that 01 and 02 name. */
+/* The second encoder's reader: from a listing's bytes to a machine, or to the refusal (1 to 6, 13 and 17) that 01 and 02 name. */
 #include "second.h"
 
 struct field {
@@ -13,8 +13,8 @@ struct line {
     bool ended;
 };
 
-/* The most fields that a line of any mark has: PT has five, MC and MO five or six. */
-#define FIELDS 6
+/* The most fields that a line of any mark has: PT has five, MC and MO five or six, FT one for each column and its mark. */
+#define FIELDS (1 + SECOND_COLUMNS)
 
 static struct second_refusal refuse(unsigned number, unsigned line)
 {
@@ -218,6 +218,49 @@ static unsigned read_ou(const struct field *field, size_t fields, struct second_
     return SECOND_FINE;
 }
 
+/* A field of a flow table: "a next state number, written as in `MC`, or a dash"; "a state number not below n is 1". */
+static bool read_next(struct field field, const struct second_machine *machine, int *next)
+{
+    unsigned state;
+    *next = SECOND_NO_STATE;
+    if (field.length == 1 && field.at[0] == '-')
+        return true;
+    if (!read_number(field, &state) || state >= machine->states)
+        return false;
+    *next = (int)state;
+    return true;
+}
+
+/* 02, request 05: "one line for each state in order, `FT` and for each column a next state number ... or a dash, as many columns
+   as the first line has"; "a wrong column count (first line: 0 or over 16) ... is 1". */
+static unsigned read_ft(const struct field *field, size_t fields, struct second_machine *machine)
+{
+    size_t columns = fields - 1;
+    if (columns < 1 || columns > SECOND_COLUMNS)
+        return SECOND_BAD_LINE;
+    if (machine->flow_lines > 0 && columns != machine->columns)
+        return SECOND_BAD_LINE;
+    for (size_t column = 0; column < columns; column++)
+        if (!read_next(field[1 + column], machine, &machine->flow[machine->flow_lines][column]))
+            return SECOND_BAD_LINE;
+    machine->columns = (unsigned)columns;
+    machine->flow_lines++;
+    return SECOND_FINE;
+}
+
+/* "`FT` beside `PT` or `DI` is 3 at the later line; a line too many is 3 at its line, too few is 3 at `EN`", each even where the
+   line is malformed (reading 23); "`FT` under `MO`" is 3 too (request 13). "Without any `FT` the listing is an ordinary one." */
+static bool is_out_of_table(struct field mark, const struct second_machine *machine)
+{
+    if (is_mark(mark, "FT"))
+        return machine->moore || machine->rows > 0 || machine->dichotomies > 0 || machine->flow_lines == machine->states;
+    if (machine->flow_lines == 0)
+        return false;
+    if (is_mark(mark, "PT") || is_mark(mark, "DI"))
+        return true;
+    return is_mark(mark, "EN") && machine->flow_lines < machine->states;
+}
+
 /* The place of a line, 3 if it is wrong: "On line 1 a mark other than `MC`, known or not, is 3"; "a second `MC`" is 3. `MO` may
    stand "in place of `MC`", and "a second head line of either kind" is 3. */
 static bool is_in_place(const struct field *field, size_t fields, unsigned number, const struct second_machine *machine)
@@ -226,6 +269,8 @@ static bool is_in_place(const struct field *field, size_t fields, unsigned numbe
     if (number == 1 && !is_head)
         return false;
     if (number != 1 && is_head)
+        return false;
+    if (number != 1 && is_out_of_table(field[0], machine))
         return false;
     return number == 1 || !is_mark(field[0], "OU") || !is_misplaced(field, fields, machine);
 }
@@ -252,6 +297,8 @@ static unsigned read_line(struct line line, unsigned number, struct second_machi
         return read_ou(field, fields, machine);
     if (is_mark(field[0], "DI"))
         return read_di(field, fields, machine);
+    if (is_mark(field[0], "FT"))
+        return read_ft(field, fields, machine);
     if (is_mark(field[0], "EN")) {
         if (fields != 1)
             return SECOND_BAD_LINE;
@@ -270,6 +317,8 @@ static void clear(struct second_machine *machine)
     machine->told = 0;
     machine->rows = 0;
     machine->cover_rows = 0;
+    machine->flow_lines = 0;
+    machine->columns = 0;
     machine->dichotomies = 0;
 }
 
@@ -299,9 +348,71 @@ static void add_rows(struct second_machine *machine)
     }
 }
 
+/* "13 for a destination that isn't stable in its column, at the first line that goes to one": the lowest line, whatever the column;
+   a destination whose own entry is a dash is not stable (reading 23). The line of state 0 is the second, as nothing may stand
+   before or among them. */
+static struct second_refusal find_unstable(const struct second_machine *machine)
+{
+    for (unsigned state = 0; state < machine->flow_lines; state++) {
+        for (unsigned column = 0; column < machine->columns; column++) {
+            int next = machine->flow[state][column];
+            if (next != SECOND_NO_STATE && machine->flow[next][column] != next)
+                return refuse(SECOND_UNSTABLE, state + 2);
+        }
+    }
+    return refuse(SECOND_FINE, 0);
+}
+
+/* "In a column, each destination forms a set with all states that go to it"; a dash is in no set (reading 23). The sets "by lowest
+   member": each is found at the lowest state that goes to its destination, which is stable and so goes to itself. */
+static unsigned find_sets(const struct second_machine *machine, unsigned column, uint64_t set[SECOND_STATES])
+{
+    unsigned sets = 0;
+    uint64_t done = 0;
+    for (unsigned lowest = 0; lowest < machine->states; lowest++) {
+        int next = machine->flow[lowest][column];
+        if (next == SECOND_NO_STATE || (done >> lowest & 1))
+            continue;
+        set[sets] = 0;
+        for (unsigned state = lowest; state < machine->states; state++)
+            if (machine->flow[state][column] == next)
+                set[sets] |= (uint64_t)1 << state;
+        done |= set[sets];
+        sets++;
+    }
+    return sets;
+}
+
+/* "each two sets give one dichotomy", "first set `+`, other `-`"; "Columns go left to right". "Those dichotomies stand in place of
+   `DI`"; equal ones from different columns all count (reading 23), and "more than 64 dichotomies is 2 at line 0". */
+static struct second_refusal draw_flow(struct second_machine *machine)
+{
+    uint64_t set[SECOND_STATES];
+    for (unsigned column = 0; column < machine->columns; column++) {
+        unsigned sets = find_sets(machine, column, set);
+        for (unsigned first = 0; first < sets; first++) {
+            for (unsigned second = first + 1; second < sets; second++) {
+                if (machine->dichotomies == SECOND_DICHOTOMIES)
+                    return refuse(SECOND_LIMIT, 0);
+                machine->dichotomy[machine->dichotomies].first = set[first];
+                machine->dichotomy[machine->dichotomies].second = set[second];
+                machine->dichotomies++;
+            }
+        }
+    }
+    return refuse(SECOND_FINE, 0);
+}
+
+/* "13 ... after all lines are read; then more than 64 dichotomies". */
+static struct second_refusal judge_flow(struct second_machine *machine)
+{
+    struct second_refusal unstable = find_unstable(machine);
+    return unstable.number == SECOND_FINE ? draw_flow(machine) : unstable;
+}
+
 /* "Order: too long; then lines from the top, the first faulty line decides". "bytes after `EN`" are 3 at the line they
    begin (reading 4); without `EN` it is 3 at "one past the last" (reading 5), so an empty listing is 3 at line 1. "a state
-   without one is 17 at the `EN` line", the last, after all lines (reading 29). */
+   without one is 17 at the `EN` line", the last, after all lines (reading 29), as a flow table is judged. */
 struct second_refusal second_read_lines(const uint8_t *listing, size_t length, struct second_machine *machine)
 {
     clear(machine);
@@ -323,7 +434,7 @@ struct second_refusal second_read_lines(const uint8_t *listing, size_t length, s
     if (machine->moore && machine->told != second_all_states(machine->states))
         return refuse(SECOND_UNTOLD, number - 1);
     add_rows(machine);
-    return refuse(SECOND_FINE, 0);
+    return judge_flow(machine);
 }
 
 /* Some input vector agrees with both rows' inputs: no place asks 0 in one and 1 in the other. */
