@@ -164,7 +164,7 @@ static struct span a_row(struct chance *chance, struct generated *listing)
 
 static uint8_t any_byte(struct chance *chance)
 {
-    static const char likely[] = "01-+.01-+. \nMCPTDIENOU2389";
+    static const char likely[] = "01-+.01-+. \nMCPTDIENOUFT2389";
     if (chance_part(chance, 3, 4))
         return (uint8_t)likely[chance_below(chance, sizeof likely - 1)];
     return (uint8_t)chance_next(chance);
@@ -330,7 +330,7 @@ static void no_end(struct chance *chance, struct generated *listing)
 static void after_end(struct chance *chance, struct generated *listing)
 {
     static const char *const more[] = {
-        "\n", "\n\n", "E", "EN", "EN\n", "MC 1 1 1 0\n", "MC", "PT 0 1 0 1\n", "OU 0 0\n", "OU", " ", "\r", "x",
+        "\n", "\n\n", "E", "EN", "EN\n", "MC 1 1 1 0\n", "MC", "PT 0 1 0 1\n", "OU 0 0\n", "OU", "FT 0\n", " ", "\r", "x",
     };
     if (chance_part(chance, 1, 6))
         insert(listing, listing->length, "\0", 1);
@@ -368,7 +368,7 @@ static void wrong_mark(struct chance *chance, struct generated *listing)
     static const char *const mark[] = {
         "MCX", "Mc", "mc", "M", "MC\t", "PTX", "pt", "P",  "PT\r", "DIX", "di", "D", "DI+", "ENX", "en",  "E",
         "EN1", "",   "SC", "UN", "CT",  ".i",  ".e", "FT", "MO",   "#",   "MC", "PT", "DI", "EN",  "\xC3\x84",
-        "MOX", "mo", "O",  "OU", "OUX", "ou",  "OU0",
+        "MOX", "mo", "O",  "OU", "OUX", "ou",  "OU0", "FTX", "ft", "F",
     };
     struct span line = any_line(chance, listing);
     replace_word(listing, field_of(listing, line, 0), any_word(chance, mark, LENGTH_OF(mark)));
@@ -821,6 +821,272 @@ static void other_profile(struct chance *chance, struct generated *listing)
     replace(listing, field, "", 0);
 }
 
+/* ---- flow tables ---- */
+
+/* A flow table of at least so many states, 1 or 2: this one if it is, else another one. */
+static void make_flow(struct chance *chance, unsigned states, struct generated *listing)
+{
+    while (!listing->flow || listing->states < states)
+        generate_profile(chance, chance_part(chance, 1, 6) ? GENERATE_FLOW_CROWD : GENERATE_FLOW, false, listing);
+}
+
+/* The line of a state of a flow table; false if there is none, which other damage may have brought about. */
+static bool flow_line(const struct generated *listing, unsigned state, struct span *line)
+{
+    *line = line_of(listing, 1 + state);
+    return line->at < listing->length && has_mark(listing, *line, "FT");
+}
+
+/* Puts a word, or a state's number, into a state's field of this column, if it has one. */
+static void put_next(struct generated *listing, unsigned state, unsigned column, const char *word)
+{
+    struct span line;
+    if (flow_line(listing, state, &line) && column + 1 < field_number(listing, line))
+        replace_word(listing, field_of(listing, line, column + 1), word);
+}
+
+static void put_next_state(struct generated *listing, unsigned state, unsigned column, unsigned next)
+{
+    char word[8] = "";
+    char *end = word;
+    put_number(next, &end);
+    put_next(listing, state, column, word);
+}
+
+/* A destination that is not stable: its own entry is a dash, or another state, and a state goes to it. */
+static void destabilise(struct chance *chance, struct generated *listing)
+{
+    struct span line;
+    if (listing->states < 2 || !flow_line(listing, 0, &line) || field_number(listing, line) < 2)
+        return;
+    unsigned column = chance_below(chance, field_number(listing, line) - 1);
+    unsigned destination = chance_below(chance, listing->states);
+    unsigned from = (destination + chance_from(chance, 1, listing->states - 1)) % listing->states;
+    unsigned other = (destination + chance_from(chance, 1, listing->states - 1)) % listing->states;
+    if (chance_part(chance, 1, 2))
+        put_next(listing, destination, column, "-");
+    else
+        put_next_state(listing, destination, column, other);
+    put_next_state(listing, from, column, destination);
+}
+
+/* Once, or several times, in which case the lowest line decides. */
+static void unstable(struct chance *chance, struct generated *listing)
+{
+    make_flow(chance, 2, listing);
+    for (unsigned times = chance_part(chance, 1, 2) ? 1 : chance_from(chance, 2, 4); times > 0; times--)
+        destabilise(chance, listing);
+}
+
+static void unstable_after_end(struct chance *chance, struct generated *listing)
+{
+    unstable(chance, listing);
+    after_end(chance, listing);
+}
+
+/* A table of about 64 dichotomies, in which a destination is not stable. */
+static void unstable_crowd(struct chance *chance, struct generated *listing)
+{
+    generate_profile(chance, GENERATE_FLOW_CROWD, false, listing);
+    destabilise(chance, listing);
+}
+
+/* The same with all destinations stable, and bytes after `EN`. */
+static void crowd_after_end(struct chance *chance, struct generated *listing)
+{
+    generate_profile(chance, GENERATE_FLOW_CROWD, false, listing);
+    after_end(chance, listing);
+}
+
+/* Lines missing, and an `EN` that may be malformed; now and then a destination is not stable too. */
+static void too_few_lines(struct chance *chance, struct generated *listing)
+{
+    static const char *const end[] = {"EN\n", "EN\n", "EN\n", "EN \n", "EN 1\n", "EN x y\n", "EN", "EN", "EN 1"};
+    struct span line;
+    make_flow(chance, 2, listing);
+    if (chance_part(chance, 1, 3))
+        destabilise(chance, listing);
+    for (unsigned times = chance_from(chance, 1, listing->states - 1); times > 0; times--)
+        if (find_line(chance, listing, "FT", field_number(listing, line_of(listing, 1)), &line) && line_number(listing) > 3)
+            cut_line(listing, line);
+    listing->length = near_end(listing);
+    insert_word(listing, listing->length, any_word(chance, end, LENGTH_OF(end)));
+}
+
+/* Spoils a line of a flow table, and answers the line as it then is. */
+static struct span spoil_flow(struct chance *chance, struct generated *listing, struct span line)
+{
+    static const char *const more[] = {" 0", " -", " ", " x", " 0 0 0 0 0 0 0 0 0 0 0 0 0 0 0 0"};
+    struct span behind_mark = {line.at + 2, line.length - 2};
+    size_t before = listing->length;
+    switch (chance_below(chance, 3)) {
+    case 0:
+        replace_word(listing, behind_mark, "");
+        break;
+    case 1:
+        insert_word(listing, line.at + line.length, any_word(chance, more, LENGTH_OF(more)));
+        break;
+    case 2:
+        replace_word(listing, field_of(listing, line, 1), chance_part(chance, 1, 2) ? "x" : "64");
+        break;
+    }
+    line.length += listing->length - before;
+    return line;
+}
+
+/* The line as it is or spoilt; now and then it is the last one and has no LF. */
+static void spoil_or_end(struct chance *chance, struct generated *listing, struct span line)
+{
+    bool spoilt = chance_part(chance, 2, 5);
+    bool last = chance_part(chance, 1, 4);
+    if (spoilt)
+        line = spoil_flow(chance, listing, line);
+    if (last)
+        listing->length = line.at + line.length;
+}
+
+/* Behind the lines of all states one more, a copy of one of them, good or not. */
+static void too_many_lines(struct chance *chance, struct generated *listing)
+{
+    struct span line;
+    uint8_t copy[256];
+    make_flow(chance, 1, listing);
+    if (chance_part(chance, 1, 4))
+        destabilise(chance, listing);
+    if (!flow_line(listing, chance_below(chance, listing->states), &line) || line.length + 1 > sizeof copy)
+        return;
+    size_t length = line.length + 1;
+    memcpy(copy, listing->bytes + line.at, length);
+    line.at = near_end(listing);
+    insert(listing, line.at, copy, length);
+    spoil_or_end(chance, listing, line);
+}
+
+/* A row or a dichotomy that fits the machine, or one that is malformed, with its LF. */
+static size_t make_other(struct chance *chance, const struct generated *listing, bool good, char line[256])
+{
+    static const char *const bad[] = {"PT\n", "PT x\n", "PT 0 0 0 0 0\n", "PT \n", "DI\n", "DI x\n", "DI \n", "DI + -\n"};
+    if (!good) {
+        const char *word = any_word(chance, bad, LENGTH_OF(bad));
+        memcpy(line, word, strlen(word));
+        return strlen(word);
+    }
+    if (chance_part(chance, 1, 2))
+        return make_row(listing, listing->states, line);
+    memcpy(line, "DI ", 3);
+    memset(line + 3, "+-."[chance_below(chance, 3)], listing->states);
+    line[3 + listing->states] = '\n';
+    return 3 + listing->states + 1;
+}
+
+/* A row or a dichotomy somewhere behind the first line of a flow table, good or malformed or without LF. */
+static void row_beside_flow(struct chance *chance, struct generated *listing)
+{
+    char other[256];
+    make_flow(chance, 1, listing);
+    bool last = chance_part(chance, 1, 4);
+    size_t length = make_other(chance, listing, chance_part(chance, 1, 2), other);
+    size_t at = line_of(listing, 2 + chance_below(chance, listing->states)).at;
+    insert(listing, at, other, length);
+    if (last)
+        listing->length = at + length - 1;
+}
+
+/* A row or a dichotomy before the first line of a flow table, which may be spoilt or without LF. */
+static void flow_beside_row(struct chance *chance, struct generated *listing)
+{
+    char other[256];
+    struct span line;
+    make_flow(chance, 1, listing);
+    size_t length = make_other(chance, listing, true, other);
+    bool there = flow_line(listing, 0, &line);
+    insert(listing, line.at, other, length);
+    line.at += length;
+    if (there)
+        spoil_or_end(chance, listing, line);
+}
+
+/* A line of a flow table among those of a Moore machine, or a flow table whose head line is `MO`. */
+static void flow_under_mo(struct chance *chance, struct generated *listing)
+{
+    static const char *const lines[] = {"FT 0\n", "FT - 0 -\n", "FT\n", "FT x\n", "FT 64\n"};
+    struct span line;
+    if (chance_part(chance, 1, 2)) {
+        make_profile(chance, true, listing);
+        line = line_of(listing, 1 + chance_below(chance, line_number(listing) + 1));
+        insert_word(listing, line.at, any_word(chance, lines, LENGTH_OF(lines)));
+        return;
+    }
+    make_flow(chance, 1, listing);
+    replace_word(listing, field_of(listing, line_of(listing, 0), 0), "MO");
+    if (flow_line(listing, 0, &line))
+        spoil_or_end(chance, listing, line);
+}
+
+/* A line of a flow table before the head line, or for it. */
+static void flow_first(struct chance *chance, struct generated *listing)
+{
+    static const char *const first[] = {"FT 0\n", "FT\n", "FT x\n", "FT - -\n"};
+    if (chance_part(chance, 1, 2))
+        insert_word(listing, 0, any_word(chance, first, LENGTH_OF(first)));
+    else
+        replace_word(listing, field_of(listing, line_of(listing, 0), 0), "FT");
+}
+
+/* A field that is no state's number and no dash: n, above n, or no number. */
+static void wrong_next(struct chance *chance, struct generated *listing)
+{
+    static const char *const number[] = {
+        "64", "65", "9999", "128", "", "00", "01", "007", "x", "-1", "+1", "--", "-0", "0-", "1x", "10000", "0\t", ".",
+    };
+    struct span line;
+    make_flow(chance, 1, listing);
+    if (chance_part(chance, 1, 4))
+        destabilise(chance, listing);
+    unsigned state = chance_below(chance, listing->states);
+    if (!flow_line(listing, state, &line) || field_number(listing, line) < 2)
+        return;
+    unsigned column = chance_below(chance, field_number(listing, line) - 1);
+    if (chance_part(chance, 1, 2))
+        put_next_state(listing, state, column, listing->states + (chance_part(chance, 3, 4) ? 0 : 1));
+    else
+        put_next(listing, state, column, any_word(chance, number, LENGTH_OF(number)));
+}
+
+/* A line whose fields are none, or one too few, or up to 16 too many. */
+static void wrong_columns(struct chance *chance, struct generated *listing)
+{
+    struct span line;
+    make_flow(chance, 1, listing);
+    if (chance_part(chance, 1, 4))
+        destabilise(chance, listing);
+    if (!flow_line(listing, chance_part(chance, 1, 3) ? 0 : chance_below(chance, listing->states), &line))
+        return;
+    unsigned columns = field_number(listing, line) - 1;
+    struct span behind_mark = {line.at + 2, line.length - 2};
+    struct span last = field_of(listing, line, columns);
+    last.at--;
+    last.length++;
+    unsigned style = chance_below(chance, 4);
+    if (style == 0)
+        replace_word(listing, behind_mark, "");
+    else if (style == 1)
+        replace_word(listing, last, "");
+    for (unsigned more = columns; style == 2 && more < 17; more++) /* 17 */
+        insert_word(listing, line.at + line.length, " 0");
+    if (style == 3)
+        insert_word(listing, line.at + line.length, chance_part(chance, 1, 2) ? " 0" : " -");
+}
+
+/* The last line is a state's line, which has no LF. */
+static void unended_flow(struct chance *chance, struct generated *listing)
+{
+    struct span line;
+    make_flow(chance, 1, listing);
+    if (flow_line(listing, chance_below(chance, listing->states), &line))
+        listing->length = line.at + line.length;
+}
+
 /* ---- the longest listings ---- */
 
 /* 65,536 bytes or a few more or fewer: filled up behind the end, within a line, or with many lines. */
@@ -864,12 +1130,12 @@ static const struct {
     {"an empty line", 2, empty_line},
     {"no EN", 3, no_end},
     {"bytes after EN", 4, after_end},
-    {"a second head", 9, second_head},
+    {"a second head", 13, second_head},
     {"two listings", 2, join_two},
     {"wrong mark", 5, wrong_mark},
     {"wrong number", 6, wrong_number},
     {"out of range", 6, out_of_range},
-    {"a wrong fifth number", 13, wrong_fifth},
+    {"a wrong fifth number", 17, wrong_fifth},
     {"a sixth number", 4, sixth_number},
     {"a tab", 2, tab_for_space},
     {"a double space", 2, double_space},
@@ -899,6 +1165,19 @@ static const struct {
     {"a wrong OU number", 4, wrong_state_number},
     {"wrong OU outputs", 9, wrong_outputs},
     {"the other profile", 7, other_profile},
+    {"unstable", 12, unstable},
+    {"unstable, more after EN", 4, unstable_after_end},
+    {"unstable crowd", 5, unstable_crowd},
+    {"crowd, more after EN", 4, crowd_after_end},
+    {"an FT too few", 9, too_few_lines},
+    {"an FT too many", 7, too_many_lines},
+    {"a row beside FT", 11, row_beside_flow},
+    {"FT beside a row", 9, flow_beside_row},
+    {"FT under MO", 6, flow_under_mo},
+    {"FT first", 3, flow_first},
+    {"a wrong next state", 9, wrong_next},
+    {"wrong columns", 9, wrong_columns},
+    {"an unended FT", 4, unended_flow},
     {"very long", 1, very_long},
 };
 

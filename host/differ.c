@@ -12,7 +12,7 @@
 #define FULL_RUN 20000
 #endif
 #define SEEN_LEAST 20
-#define UNTOLD_LEAST 100 /* 17 */
+#define LATE_LEAST 100 /* 13 and 17, which later requests brought */
 
 /* Bytes of chance before and behind a lent buffer, which nobody may change. */
 #define GUARD 64
@@ -22,7 +22,7 @@
 /* ---- what was seen ---- */
 
 /* The refusal numbers that are counted apart, 0 being an answer, and a place for any other. */
-static const unsigned numbers[] = {0, 1, 2, 3, 4, 5, 6, 7, 8, 9, 10, 11, 17};
+static const unsigned numbers[] = {0, 1, 2, 3, 4, 5, 6, 7, 8, 9, 10, 11, 13, 17};
 #define NUMBERS (LENGTH_OF(numbers) + 1)
 #define OTHER LENGTH_OF(numbers)
 #define CLASSES 8
@@ -405,6 +405,7 @@ static bool compare_listing(uint64_t seed, uint64_t number)
     if (cover >= 0)
         seen_cover(listing.bytes, listing.length);
     seen_moore(listing.bytes, listing.length, cover >= 0);
+    seen_flow(listing.bytes, listing.length, report, cover);
     unsigned class = class_of(listing.states);
     by_class[class].listings++;
     by_class[class].reports += report >= 0;
@@ -584,9 +585,9 @@ static void print_tally(const struct tally *tally)
 
 static void print_kinds(void)
 {
-    printf("%-20s %8s %8s %8s  answers of all entries by number, 0 to 11 and 17\n", "kind", "listings", "reports", "covers");
+    printf("%-24s %8s %8s %8s  answers of all entries by number, 0 to 11, 13 and 17\n", "kind", "listings", "reports", "covers");
     for (unsigned kind = 0; kind < GENERATE_KINDS; kind++) {
-        printf("%-20s %8llu %8llu %8llu ", generate_kind_name(kind), (unsigned long long)by_kind[kind].listings,
+        printf("%-24s %8llu %8llu %8llu ", generate_kind_name(kind), (unsigned long long)by_kind[kind].listings,
                (unsigned long long)by_kind[kind].reports, (unsigned long long)by_kind[kind].covers);
         for (unsigned place = 0; place < OTHER; place++)
             printf(" %llu", (unsigned long long)kind_seen[kind][place]);
@@ -614,7 +615,7 @@ static bool numbers_enough(const struct tally *tally, const char *never)
         unsigned number = numbers[place];
         uint64_t seen = tally->seen[place];
         bool given = is_given(number, never);
-        if (given ? seen >= (number == SECOND_UNTOLD ? UNTOLD_LEAST : SEEN_LEAST) : seen == 0)
+        if (given ? seen >= (number > SECOND_BAD_CALL ? LATE_LEAST : SEEN_LEAST) : seen == 0)
             continue;
         printf("FAILED: %s was refused %u %llu times\n", tally->name, number, (unsigned long long)seen);
         enough = false;
@@ -693,6 +694,7 @@ int main(int words, char **word)
            (unsigned long long)texts_gathered, (unsigned long long)steps_gathered);
     seen_print();
     seen_moore_print();
+    seen_flow_print();
     printf("%llu listings of seed %llu, half of them damaged, all alike; "
            "%llu have a report and %llu a cover, given room; %llu ms\n",
            (unsigned long long)count, (unsigned long long)seed, (unsigned long long)reports,
@@ -707,6 +709,7 @@ int main(int words, char **word)
         enough = trial_refused_starts >= SEEN_LEAST && trial_refused_moves >= SEEN_LEAST && enough;
         enough = seen_each() && enough;
         enough = seen_moore_each() && enough;
+        enough = seen_flow_each() && enough;
         if (!enough)
             return 1;
     }

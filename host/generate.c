@@ -17,11 +17,11 @@ static const struct {
     const char *name;
     unsigned weight;
 } families[GENERATE_FAMILIES] = {
-    [GENERATE_TINY] = {"tiny", 150},
-    [GENERATE_SMALL] = {"small", 175},
-    [GENERATE_MIDDLE] = {"middle", 75},
-    [GENERATE_LARGE] = {"large", 30},
-    [GENERATE_WIDE] = {"wide", 305},
+    [GENERATE_TINY] = {"tiny", 145},
+    [GENERATE_SMALL] = {"small", 145},
+    [GENERATE_MIDDLE] = {"middle", 65},
+    [GENERATE_LARGE] = {"large", 25},
+    [GENERATE_WIDE] = {"wide", 205},
     [GENERATE_HUGE] = {"huge", 2},
     [GENERATE_MANY_ROWS] = {"many rows", 45},
     [GENERATE_MANY_DICHOTOMIES] = {"many dichotomies", 38},
@@ -29,6 +29,9 @@ static const struct {
     [GENERATE_EDGE] = {"edge", 70},
     [GENERATE_CLASH] = {"clash", 50},
     [GENERATE_NARROW] = {"narrow", 40},
+    [GENERATE_FLOW] = {"flow", 60},
+    [GENERATE_FLOW_WIDE] = {"flow wide", 55},
+    [GENERATE_FLOW_CROWD] = {"flow crowd", 35},
 };
 
 struct row {
@@ -208,6 +211,10 @@ static void draw_sizes(struct chance *chance, enum generate_family family, struc
         draft->rows = chance_below(chance, 9);
         draft->dichotomies = chance_below(chance, 5);
         draft->width = chance_from(chance, 1, 4);
+        break;
+    case GENERATE_FLOW: /* these three are drawn in generate_flow.c */
+    case GENERATE_FLOW_WIDE:
+    case GENERATE_FLOW_CROWD:
         break;
     }
 }
@@ -451,11 +458,17 @@ static void put(struct generated *listing, char byte)
     listing->length++;
 }
 
-static void put_number(struct generated *listing, unsigned number)
+void generate_put_number(struct generated *listing, unsigned number)
 {
     if (number >= 10)
-        put_number(listing, number / 10);
+        generate_put_number(listing, number / 10);
     put(listing, (char)('0' + number % 10));
+}
+
+void generate_put_text(struct generated *listing, const char *text)
+{
+    for (; *text != 0; text++)
+        put(listing, *text);
 }
 
 static void put_text(struct generated *listing, const char *text, size_t length)
@@ -495,7 +508,7 @@ static void write_dichotomy(const struct draft *draft, const char *dichotomy, st
 static void write_outputs(const struct draft *draft, unsigned state, struct generated *listing)
 {
     put_text(listing, "OU ", 3);
-    put_number(listing, state);
+    generate_put_number(listing, state);
     put(listing, ' ');
     put_text(listing, draft->state_outputs[state], draft->outputs);
     put(listing, '\n');
@@ -504,13 +517,13 @@ static void write_outputs(const struct draft *draft, unsigned state, struct gene
 static void write_head(const struct draft *draft, struct generated *listing)
 {
     put_text(listing, draft->moore ? "MO " : "MC ", 3);
-    put_number(listing, draft->states);
+    generate_put_number(listing, draft->states);
     put(listing, ' ');
-    put_number(listing, draft->inputs);
+    generate_put_number(listing, draft->inputs);
     put(listing, ' ');
-    put_number(listing, draft->outputs);
+    generate_put_number(listing, draft->outputs);
     put(listing, ' ');
-    put_number(listing, draft->width);
+    generate_put_number(listing, draft->width);
     put_text(listing, draft->fifth, strlen(draft->fifth));
     put(listing, '\n');
 }
@@ -564,6 +577,10 @@ static void draw_rest(struct chance *chance, enum generate_family family, struct
 void generate_profile(struct chance *chance, enum generate_family family, bool moore, struct generated *listing)
 {
     static struct draft draft;
+    if (family >= GENERATE_FLOW) {
+        generate_flow(chance, family, listing);
+        return;
+    }
     draw_sizes(chance, family, &draft);
     draft.moore = moore;
     draw_rest(chance, family, &draft);
@@ -573,9 +590,10 @@ void generate_profile(struct chance *chance, enum generate_family family, bool m
     listing->inputs = draft.inputs;
     listing->outputs = draft.outputs;
     listing->moore = moore;
+    listing->flow = false;
 }
 
-/* A third are Moore machines. */
+/* A third are Moore machines, but for the flow tables. */
 void generate_good(struct chance *chance, enum generate_family family, struct generated *listing)
 {
     bool moore = chance_part(chance, 1, 3);
@@ -592,6 +610,7 @@ const char *generate_kind_name(unsigned kind)
 /* A good one of any family; or a small one, most often, with one to three damages. */
 void generate_listing(uint64_t seed, uint64_t number, bool damaged, struct generated *listing)
 {
+    static const enum generate_family small[] = {GENERATE_TINY, GENERATE_TINY, GENERATE_SMALL, GENERATE_SMALL, GENERATE_FLOW};
     struct chance chance = chance_of(seed, number);
     enum generate_family family = draw_family(&chance);
     if (!damaged) {
@@ -599,7 +618,7 @@ void generate_listing(uint64_t seed, uint64_t number, bool damaged, struct gener
         return;
     }
     if (chance_part(&chance, 3, 4))
-        family = chance_part(&chance, 1, 2) ? GENERATE_TINY : GENERATE_SMALL;
+        family = small[chance_below(&chance, LENGTH_OF(small))];
     generate_good(&chance, family, listing);
     unsigned first = generate_draw_damage(&chance);
     generate_damage(&chance, first, listing);

@@ -1,5 +1,5 @@
-/* What a run of the comparison has seen of output dashes, of rows that a cover leaves out or keeps, of wrong head lines, and of
-   Moore machines. */
+/* What a run of the comparison has seen of output dashes, of rows that a cover leaves out or keeps, of wrong head lines, of Moore
+   machines, and of flow tables. */
 #ifndef SEEN_H
 #define SEEN_H
 
@@ -32,5 +32,11 @@ void seen_moore(const uint8_t *listing, size_t length, bool has_cover);
 
 void seen_moore_print(void);
 bool seen_moore_each(void);
+
+/* Notes a flow table that has a report, and what its cover is answered; or any listing that is refused (seen_flow.c). */
+void seen_flow(const uint8_t *listing, size_t length, int64_t report, int64_t cover);
+
+void seen_flow_print(void);
+bool seen_flow_each(void);
 
 #endif

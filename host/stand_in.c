@@ -3,6 +3,7 @@
 #include "adapter.h"
 #include "generate.h"
 #include "known.h"
+#include "stand_in_flow.h"
 #include "tsurmokan.h"
 
 #ifndef STAND_IN_FAULT
@@ -56,7 +57,8 @@ static int64_t spoil(int64_t answer, const uint8_t *listing, size_t listing_leng
 
 int64_t tsurmokan_report(const uint8_t *listing, size_t listing_length, uint8_t *out, size_t out_length)
 {
-    return spoil(second_report(listing, listing_length, out, out_length), listing, listing_length, out, out_length);
+    int64_t answer = stand_in_flow(second_report, listing, listing_length, out, out_length);
+    return spoil(answer, listing, listing_length, out, out_length);
 }
 
 /* An output dash by a rule that is not 02's. */
