@@ -870,11 +870,11 @@ static void destabilise(struct chance *chance, struct generated *listing)
     put_next_state(listing, from, column, destination);
 }
 
-/* Once, or several times, in which case the lowest line decides. */
+/* Once, or most often several times, in which case the lowest line decides. */
 static void unstable(struct chance *chance, struct generated *listing)
 {
     make_flow(chance, 2, listing);
-    for (unsigned times = chance_part(chance, 1, 2) ? 1 : chance_from(chance, 2, 4); times > 0; times--)
+    for (unsigned times = chance_part(chance, 1, 4) ? 1 : chance_from(chance, 2, 4); times > 0; times--)
         destabilise(chance, listing);
 }
 
@@ -1130,7 +1130,7 @@ static const struct {
     {"an empty line", 2, empty_line},
     {"no EN", 3, no_end},
     {"bytes after EN", 4, after_end},
-    {"a second head", 13, second_head},
+    {"a second head", 15, second_head},
     {"two listings", 2, join_two},
     {"wrong mark", 5, wrong_mark},
     {"wrong number", 6, wrong_number},
@@ -1159,7 +1159,7 @@ static const struct {
     {"no OU, more after EN", 4, no_outputs_after_end},
     {"a second OU", 9, second_outputs},
     {"an unended OU", 4, unended_outputs},
-    {"OU under MC", 6, outputs_under_mc},
+    {"OU under MC", 7, outputs_under_mc},
     {"OU first", 3, outputs_first},
     {"OU of no state", 6, no_such_state},
     {"a wrong OU number", 4, wrong_state_number},
@@ -1170,9 +1170,9 @@ static const struct {
     {"unstable crowd", 5, unstable_crowd},
     {"crowd, more after EN", 4, crowd_after_end},
     {"an FT too few", 9, too_few_lines},
-    {"an FT too many", 7, too_many_lines},
+    {"an FT too many", 8, too_many_lines},
     {"a row beside FT", 11, row_beside_flow},
-    {"FT beside a row", 9, flow_beside_row},
+    {"FT beside a row", 11, flow_beside_row},
     {"FT under MO", 6, flow_under_mo},
     {"FT first", 3, flow_first},
     {"a wrong next state", 9, wrong_next},

@@ -12,16 +12,16 @@
 #define NO_STATE (-1)
 
 /* Each family's name and how often it is drawn, out of 1,000. Those that take an encoder long are seldom, so that a run stays
-   fast; above 32 states, where most controllers are, is a third of all. */
+   fast; above 32 states, where most controllers are, is more than a quarter of all. */
 static const struct {
     const char *name;
     unsigned weight;
 } families[GENERATE_FAMILIES] = {
-    [GENERATE_TINY] = {"tiny", 145},
+    [GENERATE_TINY] = {"tiny", 155},
     [GENERATE_SMALL] = {"small", 145},
     [GENERATE_MIDDLE] = {"middle", 65},
     [GENERATE_LARGE] = {"large", 25},
-    [GENERATE_WIDE] = {"wide", 205},
+    [GENERATE_WIDE] = {"wide", 195},
     [GENERATE_HUGE] = {"huge", 2},
     [GENERATE_MANY_ROWS] = {"many rows", 45},
     [GENERATE_MANY_DICHOTOMIES] = {"many dichotomies", 38},

@@ -13,11 +13,14 @@ typedef __INT32_TYPE__ int32_t;
 #define NATIVE_OUTPUTS 32
 #define NATIVE_ROWS 128
 #define NATIVE_DICHOTOMIES 64
+#define NATIVE_COLUMNS 16
 #define NATIVE_BYTES 65536
 #define NATIVE_REQUIREMENTS 10016
 
 /* The most members of all requirements: 2,016 pairs, 128 groups of 32 states with 32 outside, 64 dichotomies of 64 states. */
 #define NATIVE_MEMBERS (2016 * 2 + 128 * 32 * 33 + 64 * 64)
+
+#define NATIVE_DASH 255
 
 /* All of so many states, at least one. */
 static inline uint64_t native_all_states(uint32_t states)
@@ -35,6 +38,9 @@ struct native_machine {
     uint32_t dichotomies;
     bool moore;    /* the head line is `MO` */
     uint64_t told; /* the states that have had their `OU` line */
+    uint32_t flow_lines; /* the `FT` lines, and how many columns they have */
+    uint32_t columns;
+    uint8_t flow[NATIVE_STATES][NATIVE_COLUMNS]; /* a state, or NATIVE_DASH */
     uint64_t group[NATIVE_ROWS];
     uint32_t low[NATIVE_ROWS];    /* the group's first 32 states again, or nobody where the row names no next state */
     uint32_t high[NATIVE_ROWS];   /* and the others */

@@ -181,6 +181,44 @@ static int64_t read_outputs(struct walk *walk, uint32_t line, struct native_mach
     return 0;
 }
 
+/* An entry of a flow table: a dash, or a state's number; a space, a LF or the end is behind it. */
+static bool take_next(struct walk *walk, uint32_t states, uint8_t *next)
+{
+    const uint8_t *start = walk->at;
+    uint32_t state = 0;
+    *next = NATIVE_DASH;
+    if (walk->at < walk->end && *walk->at == '-') {
+        walk->at++;
+    } else {
+        while (walk->at < walk->end && walk->at - start < 4 && (uint8_t)(*walk->at - '0') <= 9)
+            state = state * 10 + (uint32_t)(*walk->at++ - '0');
+        if (walk->at == start || (*start == '0' && walk->at - start > 1) || state >= states)
+            return false;
+        *next = (uint8_t)state;
+    }
+    return walk->at == walk->end || *walk->at == ' ' || *walk->at == '\n';
+}
+
+/* A line of a flow table: its place is judged first, as that of an `OU` line is. */
+static int64_t read_flow(struct walk *walk, uint32_t line, struct native_machine *machine)
+{
+    uint32_t state = machine->flow_lines;
+    uint32_t columns = 0;
+    if (machine->moore || machine->rows + machine->dichotomies > 0 || state == machine->states)
+        return refusal(3, line);
+    for (; walk->at < walk->end && *walk->at == ' '; columns++) {
+        walk->at++;
+        if (columns == NATIVE_COLUMNS || !take_next(walk, machine->states, &machine->flow[state][columns]))
+            return refusal(1, line);
+    }
+    if (walk->at == walk->end || columns == 0 || (state > 0 && columns != machine->columns))
+        return refusal(1, line);
+    walk->at++;
+    machine->columns = columns;
+    machine->flow_lines = state + 1;
+    return 0;
+}
+
 /* The mark is the whole first field: two bytes, then a space, a LF or the end. 0 for any other. */
 static uint32_t mark_at(const struct walk *walk)
 {
@@ -214,19 +252,66 @@ static int64_t find_conflict(const struct native_machine *machine)
     return 0;
 }
 
-/* What is left to judge behind a good `EN` line: nothing more, the states without an `OU` line, the rows. */
-static int64_t judge_end(const struct walk *walk, uint32_t line, const struct native_machine *machine)
+/* A column's sets, in the order in which the states come to them, which is that of their lowest members. */
+static uint32_t take_sets(const struct native_machine *machine, uint32_t column, uint64_t set[NATIVE_STATES])
+{
+    uint8_t place[NATIVE_STATES];
+    uint64_t seen = 0;
+    uint32_t sets = 0;
+    for (uint32_t state = 0; state < machine->states; state++) {
+        uint8_t next = machine->flow[state][column];
+        if (next == NATIVE_DASH)
+            continue;
+        if (!(seen >> next & 1)) {
+            seen |= (uint64_t)1 << next;
+            set[sets] = 0;
+            place[next] = (uint8_t)sets++;
+        }
+        set[place[next]] |= (uint64_t)1 << state;
+    }
+    return sets;
+}
+
+/* A flow table whose lines are all there: 13 for the first line that goes to a state that is not stable, then the dichotomies. */
+static int64_t judge_flow(struct native_machine *machine)
+{
+    uint64_t set[NATIVE_STATES];
+    for (uint32_t state = 0; state < machine->states; state++)
+        for (uint32_t column = 0; column < machine->columns; column++) {
+            uint8_t next = machine->flow[state][column];
+            if (next != NATIVE_DASH && machine->flow[next][column] != next)
+                return refusal(13, state + 2);
+        }
+    for (uint32_t column = 0; column < machine->columns; column++) {
+        uint32_t sets = take_sets(machine, column, set);
+        if (machine->dichotomies + sets * (sets - 1) / 2 > NATIVE_DICHOTOMIES)
+            return refusal(2, 0);
+        for (uint32_t one = 0; one < sets; one++)
+            for (uint32_t other = one + 1; other < sets; other++) {
+                machine->first[machine->dichotomies] = set[one];
+                machine->second[machine->dichotomies++] = set[other];
+            }
+    }
+    return 0;
+}
+
+/* What is left to judge behind a good `EN` line: nothing more, the states without an `OU` line, the flow table, the rows. */
+static int64_t judge_end(const struct walk *walk, uint32_t line, struct native_machine *machine)
 {
     if (walk->at + 1 != walk->end)
         return refusal(3, line + 1);
     if (machine->moore && machine->told != native_all_states(machine->states))
         return refusal(17, line);
-    return find_conflict(machine);
+    return machine->flow_lines > 0 ? judge_flow(machine) : find_conflict(machine);
 }
 
 /* A line that is not the first and no `EN` line. */
 static int64_t read_line(struct walk *walk, uint32_t mark, uint32_t line, struct native_machine *machine)
 {
+    if (mark == MARK('F', 'T'))
+        return read_flow(walk, line, machine);
+    if (machine->flow_lines > 0 && (mark == MARK('P', 'T') || mark == MARK('D', 'I')))
+        return refusal(3, line);
     if (mark == MARK('P', 'T'))
         return read_row(walk, line, machine);
     if (mark == MARK('O', 'U'))
@@ -242,6 +327,7 @@ int64_t native_read(const uint8_t *listing, size_t length, struct native_machine
     machine->rows = 0;
     machine->dichotomies = 0;
     machine->told = 0;
+    machine->flow_lines = 0;
     if (length > NATIVE_BYTES)
         return refusal(2, 0);
     for (uint32_t line = 1; walk.at < walk.end; line++) {
@@ -252,6 +338,8 @@ int64_t native_read(const uint8_t *listing, size_t length, struct native_machine
         if (mark == 0)
             return refusal(1, line);
         walk.at += 2;
+        if (mark == MARK('E', 'N') && machine->flow_lines > 0 && machine->flow_lines < machine->states)
+            return refusal(3, line);
         if (mark == MARK('E', 'N') && walk.at < walk.end && *walk.at == '\n')
             return judge_end(&walk, line, machine);
         machine->moore = is_head ? mark == MARK('M', 'O') : machine->moore;

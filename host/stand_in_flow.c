@@ -180,7 +180,7 @@ static int64_t unstable_at(const struct second_machine *machine, unsigned line)
 /* 1 in place of 3 for a line that has a second fault, or none. */
 static bool is_bad_instead(const uint8_t *listing, struct line line, const struct second_machine *machine)
 {
-    bool flow = has_mark(listing, line, "FT");
+    bool flow = line.at > 0 && has_mark(listing, line, "FT");
     bool end = has_mark(listing, line, "EN");
     bool other = has_mark(listing, line, "PT") || has_mark(listing, line, "DI");
     bool before = machine->flow_lines > 0;
@@ -200,7 +200,7 @@ static bool is_limit_instead(const uint8_t *listing, struct line line, const str
 {
     if (!has_mark(listing, line, "FT") || !line.ended)
         return false;
-    return (fault(95) && line.fields > 17) || (fault(96) && line.fields == machine->columns + 1);
+    return (fault(95) && line.fields > 17) || (fault(96) && machine->flow_lines > 0 && line.fields == machine->columns + 1);
 }
 
 /* The answer of a listing that is refused at a line. */
