@@ -1440,7 +1440,7 @@ static void test_by_chance(void)
 
 /* The same seed gives the same listings on every machine: a sum over the first 2,000 of seed 1. A change of the generator
    changes it, and is then written down here. */
-#define SUM_OF_SEED_1 0x3D0D071E499E0422u
+#define SUM_OF_SEED_1 0x7EA2B32103BFB718u
 static void test_seed(void)
 {
     static struct generated made;
