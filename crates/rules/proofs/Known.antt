@@ -1,4 +1,4 @@
--- P1 to P10 of 01, "Known examples", and a sequencer: one table, one test that is computed over all of it, and the law that makes it each case's statement.
+-- P1 to P10 of 01, "Known examples", a sequencer, and Table III of 001: one table, one test that is computed over all of it, and the law that makes it each case's statement.
 use mathlib.Core.Path.{_≡_, refl, ap₂}
 use mathlib.Core.Bool.{Bool, true, false, _&&_}
 use mathlib.Core.List.{List, [], _∷_, map}
@@ -12,6 +12,7 @@ use Rattle.sets.specs.Sets.{flip}
 use Rattle.sets.proofs.Every.{and-first, and-second}
 use Rattle.rules.specs.Text.{bytes, same, digit, one, plus, dash, setOf}
 use Rattle.rules.specs.Lines.{headLine}
+use Rattle.rules.specs.Listing.{dichotomiesOf, reading}
 use Rattle.rules.specs.Requirements.{groupAsks, metByCode}
 use Rattle.rules.specs.Looks.{looksAt}
 use Rattle.rules.specs.Cover.{face, faceAt}
@@ -57,6 +58,8 @@ pub data Case : Type 0 where
   covers : String → String → Case
   -- what each width buys it
   buys : String → String → Case
+  -- the dichotomies of a listing, each as in `DI`
+  gives : String → List String → Case
   -- a first line, and the numbers read
   reads : String → Head → Case
   -- some states' codes, a group as in `PT`, and its face; all that the group asks is met
@@ -98,8 +101,12 @@ p9 = "MC 3 1 1 0\nPT 0 110 100 1\nPT - 010 001 1\nEN\n"
 sequencer : String
 sequencer = "MO 4 2 3 0\nPT 1- 1000 0100\nPT 0- 1000 1000\nOU 3 0-1\nPT -1 0100 0010\nPT -0 0100 0100\nPT -1 0010 0001\nPT -0 0010 0010\nPT -- 0001 1000\nOU 0 000\nOU 1 100\nOU 2 010\nEN\n"
 
+-- 001, Table III: s1 to s4 are the states 0 to 3, the columns 00, 01, 11, 10
+table-iii : String
+table-iii = "MC 4 2 1 0\nFT 0 1 0 0\nFT 2 1 1 3\nFT 2 1 0 2\nFT 2 3 1 3\nEN\n"
+
 pub cases : List Case
-unfolding p1 p1-kept p2 p3 p4 p5 p6 p7 p9 sequencer
+unfolding p1 p1-kept p2 p3 p4 p5 p6 p7 p9 sequencer table-iii
 cases =
     reports p1 "CT 2 5 0 2 17\nSC 0 00\nSC 1 10\nSC 2 01\nBY 0 0\nBY 1 1\nBY 2 0\nBY 3 1\nBY 4 0\nEN\n"
     ∷ covers p1 ".i 3\n.o 3\n.type fd\n.p 1\n0-0 011\n.e\n"
@@ -132,6 +139,10 @@ cases =
     ∷ reports "MC 65 1 1 0\n" "NO 2 1\n"
     ∷ covers sequencer ".i 4\n.o 5\n.type fd\n.p 8\n1-00 01000\n-101 11000\n-001 01000\n-111 10000\n-011 11000\n--01 00100\n--11 00010\n--10 000-1\n.e\n"
     ∷ reports "MO 2 1 1 0\nOU 1 1\nEN\n" "NO 17 3\n"
+    ∷ gives table-iii ("+---" ∷ "+++-" ∷ "+-+-" ∷ "+-.-" ∷ "+.-." ∷ ".+-+" ∷ [])
+    ∷ reports table-iii "CT 4 12 0 6 104\nSC 0 0000\nSC 1 1110\nSC 2 0110\nSC 3 1011\nBY 0 0\nBY 1 1\nBY 2 0\nBY 3 0\nBY 4 1\nBY 5 0\nBY 6 2\nBY 7 3\nBY 8 0\nBY 9 0\nBY 10 1\nBY 11 0\nEN\n"
+    ∷ covers table-iii ".i 6\n.o 5\n.type fd\n.p 0\n.e\n"
+    ∷ reports "MC 2 1 1 0\nFT 1 -\nFT - 0\nEN\n" "NO 13 2\n"
     ∷ []
 
 -- ---- what a case states
@@ -140,6 +151,7 @@ abbrev pub Holds : Case → Type 0
 Holds (reports listing text) = printed (reportReply (bytes listing)) ≡ bytes text
 Holds (covers listing text) = printed (coverReply (bytes listing)) ≡ bytes text
 Holds (buys listing text) = printed (widthsReply (bytes listing)) ≡ bytes text
+Holds (gives listing rs) = dichotomiesOf (reading (bytes listing) .listing) ≡ map asked rs
 Holds (reads line head) = headLine (head .moore) (bytes line) ≡ HeadLine.Read head
 Holds (faces codes group text) =
     (face (length codes) (bitsOf codes) (setOf one (bytes group)) ≡ bytes text)
@@ -157,11 +169,18 @@ sameHead : HeadLine → Head → Bool
 sameHead (HeadLine.Read a) b = eqb (a .states) (b .states) && eqb (a .inputs) (b .inputs) && eqb (a .outputs) (b .outputs) && eqb (a .width) (b .width) && eqb (digit (a .keeps)) (digit (b .keeps)) && eqb (digit (a .moore)) (digit (b .moore))
 sameHead (HeadLine.Refused r) b = false
 
+sameAsked : List Requirement → List Requirement → Bool
+sameAsked [] [] = true
+sameAsked [] (y ∷ ys) = false
+sameAsked (x ∷ xs) [] = false
+sameAsked (x ∷ xs) (y ∷ ys) = eqb (x .first) (y .first) && eqb (x .second) (y .second) && sameAsked xs ys
+
 right : Case → Bool
-unfolding same reportReply coverReply widthsReply printed headLine sameHead faceAt allMet groupAsks looksOf metByCode bitsIn setOf
+unfolding same reading sameAsked reportReply coverReply widthsReply printed headLine sameHead faceAt allMet groupAsks looksOf metByCode bitsIn setOf
 right (reports listing text) = same (printed (reportReply (bytes listing))) (bytes text)
 right (covers listing text) = same (printed (coverReply (bytes listing))) (bytes text)
 right (buys listing text) = same (printed (widthsReply (bytes listing))) (bytes text)
+right (gives listing rs) = sameAsked (dichotomiesOf (reading (bytes listing) .listing)) (map asked rs)
 right (reads line head) = sameHead (headLine (head .moore) (bytes line)) head
 right (faces codes group text) =
     same (face (length codes) (bitsOf codes) (setOf one (bytes group))) (bytes text)
@@ -186,6 +205,17 @@ same-eq [] [] e = refl
 same-eq [] (y ∷ ys) e = absurd (let z : _≡_ {A = ℕ} 0 1 = cc in omega arith)
 same-eq (x ∷ xs) [] e = absurd (let z : _≡_ {A = ℕ} 0 1 = cc in omega arith)
 same-eq (x ∷ xs) (y ∷ ys) e = ap₂ (λ (a : ℕ) (l : List ℕ). a ∷ l) (eqb-true x y (and-first (eqb x y) (same xs ys) e)) (same-eq xs ys (and-second (eqb x y) (same xs ys) e))
+
+asked-eq : (xs ys : List Requirement) → sameAsked xs ys ≡ true → xs ≡ ys
+unfolding sameAsked
+asked-eq [] [] e = refl
+asked-eq [] (y ∷ ys) e = absurd (let z : _≡_ {A = ℕ} 0 1 = cc in omega arith)
+asked-eq (x ∷ xs) [] e = absurd (let z : _≡_ {A = ℕ} 0 1 = cc in omega arith)
+asked-eq (x ∷ xs) (y ∷ ys) e =
+    let both = eqb (x .first) (y .first) && eqb (x .second) (y .second) in
+    let f : x .first ≡ y .first = eqb-true _ _ (and-first (eqb (x .first) (y .first)) _ (and-first both (sameAsked xs ys) e)) in
+    let s : x .second ≡ y .second = eqb-true _ _ (and-second (eqb (x .first) (y .first)) _ (and-first both (sameAsked xs ys) e)) in
+    ap₂ (λ (r : Requirement) (l : List Requirement). r ∷ l) (λ i. record { first = f i; second = s i }) (asked-eq xs ys (and-second both (sameAsked xs ys) e))
 
 digit-same : (a b : Bool) → digit a ≡ digit b → a ≡ b
 digit-same true true e = refl
@@ -219,6 +249,7 @@ unfolding right
 right-holds (reports listing text) e = same-eq _ _ e
 right-holds (covers listing text) e = same-eq _ _ e
 right-holds (buys listing text) e = same-eq _ _ e
+right-holds (gives listing rs) e = asked-eq _ _ e
 right-holds (reads line head) e = head-eq _ _ e
 right-holds (faces codes group text) e =
     let a : Bool = same (face (length codes) (bitsOf codes) (setOf one (bytes group))) (bytes text) in

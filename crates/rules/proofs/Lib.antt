@@ -25,6 +25,7 @@ pub mod Fires
 pub mod Granted
 pub mod Characters
 pub mod SoundLines
+pub mod FlowSets
 pub mod Sharing
 pub mod Sound
 pub mod AllRows

@@ -2,24 +2,29 @@
 use mathlib.Core.Path.{_≡_, refl, sym, ap, _∙_, subst}
 use mathlib.Core.Bool.{Bool, true, false, cond}
 use mathlib.Core.List.{List, [], _∷_}
-use Prim.Native.Nat.{ℕ, suc, _+_, _≤_, _<_}
+use Prim.Native.Nat.{ℕ, zero, suc, _+_, _≤_, _<_}
 use native.Mathlib.Decide.{decLt, ℕ-discrete}
 use native.Mathlib.Omega.{arith}
 use lib.Dec.{eqb, leb}
-use lib.ListN.{length, getD, set, List·getD-eq-default, length-take}
+use lib.ListN.{length, take, getD, set, List·getD-eq-default, length-take}
 use lib.Seq.{getD-set-same, getD-set-other, set-out, getD-take}
 use borrow.Author.Tests.{leb-true}
-use Rattle.rules.specs.Limits.{most-bytes}
+use Rattle.sets.specs.Sets.{statesFrom}
+use Rattle.rules.specs.Limits.{most-bytes, most-states, most-dichotomies}
 use Rattle.rules.specs.Text.{push, split, linesOf, markOf, markIs}
 use Rattle.rules.specs.Lines.{headLine, rowLine, dichotomyLine, outputsLine, endLine}
-use Rattle.rules.specs.Listing.{noRow, blank, withRow, rowsOf, accepted, refused, Step, goes, ends, stops, onHead, onRow, onDichotomy, onOutputs, onEnd, placed, lineDoes, lineStep, nothing, complete, ended, unended, readLines, clash, clashWith, orElse, conflict, judged, checked, reading}
+use Rattle.rules.specs.Listing.{noRow, blank, withHead, withRow, withDichotomy, rowsOf, accepted, refused, Step, goes, ends, stops, onHead, onRow, onDichotomy, onOutputs, onEnd, placed, lineDoes, lineStep, nothing, complete, ended, unended, readLines, readAll, clash, clashWith, orElse, conflict, judged, checked, reading}
+use Rattle.rules.specs.Listing.{withDichotomies, flowStep, flowGives, flowRead, flowEnded, flowUnended, flowLines}
+use Rattle.rules.specs.FlowTable.{flowAsks, goesWell, stability}
+use Rattle.rules.specs.FlowLines.{flowHead, columnCount, columnsOf, FlowStep, flowGoes, flowEnds, flowStops, flowPlaced}
 use Rattle.rules.specs.declared.Head.{Head}
 use Rattle.rules.specs.declared.Row.{Row}
+use Rattle.rules.specs.declared.Requirement.{Requirement}
 use Rattle.rules.specs.declared.Listing.{Listing}
 use Rattle.rules.specs.declared.Mark.{Mark}
-use Rattle.rules.specs.declared.Mark.the-variants.{Mc, Mo, Pt, Di, Ou, En, Unknown}
+use Rattle.rules.specs.declared.Mark.the-variants.{Mc, Mo, Pt, Di, Ou, Ft, En, Unknown}
 use Rattle.rules.specs.declared.Refusal.{Refusal}
-use Rattle.rules.specs.declared.Refusal.the-variants.{BadLine, Limit, Place, Conflict, NoOutputs}
+use Rattle.rules.specs.declared.Refusal.the-variants.{BadLine, Limit, Place, Conflict, Unstable, NoOutputs}
 use Rattle.rules.specs.declared.Verdict.{Verdict}
 use Rattle.rules.specs.declared.HeadLine.{HeadLine}
 use Rattle.rules.specs.declared.RowLine.{RowLine}
@@ -27,8 +32,8 @@ use Rattle.rules.specs.declared.DichotomyLine.{DichotomyLine}
 use Rattle.rules.specs.declared.OutputsLine.{OutputsLine}
 use Rattle.rules.specs.declared.EndLine.{EndLine}
 use Rattle.rules.specs.declared.Reading.{Reading}
-use Rattle.rules.proofs.SoundLines.{row-read}
-use Rattle.rules.proofs.Sound.{goes-same, stops-not, step-placed, after, reads-on, reads-none, reads-last}
+use Rattle.rules.proofs.SoundLines.{head-sound, row-read}
+use Rattle.rules.proofs.Sound.{goes-same, stops-not, step-placed, after, reads-on, reads-none, reads-last, flow-head, flowAfter, flow-on, flow-none, flow-last, readBy, all-two, all-one, all-none}
 
 -- a refusal is at line m or above, and the rows of an accepted listing stand there
 abbrev Numbered : ℕ → Listing → Type 0
@@ -86,6 +91,7 @@ does-numbered m Ou k t l u h f e = on (outputsLine (t .head) l) e
     on : (x : OutputsLine) → onOutputs x t ≡ goes u → Numbered m u
     on (OutputsLine.Read n p) e = subst (Numbered m) (goes-same _ _ e) f
     on (OutputsLine.Refused r) e = absurd (stops-not r u e)
+does-numbered m Ft k t l u h f e = absurd (stops-not BadLine u e)
 does-numbered m En k t l u h f e = on (endLine l) e
   where
     on : (x : EndLine) → onEnd x ≡ goes u → Numbered m u
@@ -124,6 +130,78 @@ lines-within m k t (l ∷ (x ∷ xs)) p h f =
     go (goes u) e g = g u (does-numbered m (markIs (markOf l)) k t l u (omega arith) f (step-placed k t u l e .1))
     go ends e g = ended-within m k t (x ∷ xs) (omega arith) f
     go (stops r) e g = refused-within m r k (omega arith)
+
+-- ---- a flow table: it has no rows
+
+dichotomies-numbered : (m : ℕ) (ds : List Requirement) (t : Listing) → Numbered m t → Numbered m (withDichotomies ds t)
+unfolding withDichotomies
+dichotomies-numbered m [] t f = f
+dichotomies-numbered m (d ∷ ds) t f = dichotomies-numbered m ds (withDichotomy d t) f
+
+gives-within : (m : ℕ) (h : Head) (ds : List Requirement) → Within m (flowGives h ds)
+unfolding flowGives
+gives-within m h ds = go (leb (length ds) most-dichotomies)
+  where
+    go : (b : Bool) → Within m (cond b (accepted (withDichotomies ds (withHead h blank))) (refused Limit 0))
+    go true = record { line = tt; rows = dichotomies-numbered m ds (withHead h blank) (blank-numbered m) }
+    go false = refused-within m Limit 0 (omega arith)
+
+-- 13 stands at a state's line
+stable-within : (m : ℕ) (columns : List (List ℕ)) (a k : ℕ) → a + k + 1 ≤ m → AtMost m (stability columns (statesFrom a k))
+unfolding stability statesFrom
+stable-within m columns a zero h = tt
+stable-within m columns a (suc k) h = go (goesWell columns a) (stable-within m columns (suc a) k (omega arith))
+  where
+    go : (b : Bool) → AtMost m (stability columns (statesFrom (suc a) k))
+        → AtMost m (elim b as (λ _. Verdict) [ true ↦ stability columns (statesFrom (suc a) k) | false ↦ Verdict.Refused Unstable (a + 2) ])
+    go true g = g
+    go false g = omega arith
+
+read-within : (m : ℕ) (h : Head) (columns : List (List ℕ)) → h .states + 1 ≤ m → Within m (flowRead h columns)
+unfolding flowRead
+read-within m h columns l = go (stability columns (statesFrom 0 (h .states))) (stable-within m columns 0 (h .states) (omega arith))
+  where
+    go : (v : Verdict) → AtMost m v → Within m (elim v as (λ _. Reading) [ Verdict.Accepted ↦ flowGives h (flowAsks columns) | Verdict.Refused r k ↦ refused r k ])
+    go Verdict.Accepted g = gives-within m h (flowAsks columns)
+    go (Verdict.Refused r k) g = refused-within m r k g
+
+flow-ended-within : (m k : ℕ) (h : Head) (all rest : List (List ℕ)) → k < m → h .states + 1 ≤ m → Within m (flowEnded k h all rest)
+unfolding flowEnded
+flow-ended-within m k h all rest l n = go (nothing rest)
+  where
+    go : (b : Bool) → Within m (cond b (flowRead h (columnsOf (h .states) (columnCount all) (take (h .states) all))) (refused Place (k + 1)))
+    go true = read-within m h (columnsOf (h .states) (columnCount all) (take (h .states) all)) n
+    go false = refused-within m Place (k + 1) (omega arith)
+
+flow-unended-within : (m k n : ℕ) (l : List ℕ) → k ≤ m → Within m (flowUnended k n l)
+unfolding flowUnended
+flow-unended-within m k n [] h = refused-within m Place k h
+flow-unended-within m k n (x ∷ xs) h = go (flowPlaced (markIs (markOf (x ∷ xs))) k n)
+  where
+    go : (b : Bool) → Within m (cond b (refused BadLine k) (refused Place k))
+    go true = refused-within m BadLine k h
+    go false = refused-within m Place k h
+
+flow-within : (m k : ℕ) (h : Head) (all ls : List (List ℕ)) → k + length ls ≤ m → h .states + 1 ≤ m → Within m (flowLines k h all ls)
+unfolding flowAfter
+flow-within m k h all [] l n = rw (flow-none k h all) (refused-within m Place k (omega arith))
+flow-within m k h all (x ∷ []) l n = rw (flow-last k h all x) (flow-unended-within m k (h .states) x (omega arith))
+flow-within m k h all (x ∷ (y ∷ ys)) l n = rw (flow-on k h all x y ys) (go (flowStep k (h .states) (columnCount all) x) (flow-within m (k + 1) h all (y ∷ ys) (omega arith) n))
+  where
+    go : (s : FlowStep) → Within m (flowLines (k + 1) h all (y ∷ ys)) → Within m (flowAfter k h all (y ∷ ys) s)
+    go flowGoes g = g
+    go flowEnds g = flow-ended-within m k h all (y ∷ ys) (omega arith) n
+    go (flowStops r) g = refused-within m r k (omega arith)
+
+all-within : (m : ℕ) (ls : List (List ℕ)) → 1 + length ls ≤ m → most-states + 1 ≤ m → Within m (readAll ls)
+unfolding readBy
+all-within m [] h n = rw all-none (lines-within m 1 blank [] (omega arith) h (blank-numbered m))
+all-within m (l ∷ []) h n = rw (all-one l) (lines-within m 1 blank (l ∷ []) (omega arith) h (blank-numbered m))
+all-within m (l ∷ (x ∷ xs)) h n = rw (all-two l x xs) (go (flowHead l x) refl)
+  where
+    go : (y : HeadLine) → flowHead l x ≡ y → Within m (readBy y l (x ∷ xs))
+    go (HeadLine.Read g) e = flow-within m 2 g (x ∷ xs) (x ∷ xs) (omega arith) (omega (arith, head-sound false l g (flow-head l x g e) .few-states))
+    go (HeadLine.Refused r) e = lines-within m 1 blank (l ∷ (x ∷ xs)) (omega arith) h (blank-numbered m)
 
 -- ---- the conflict
 
@@ -193,10 +271,10 @@ reading-within : (s : List ℕ) → AtMost (most-bytes + 2) (reading s .verdict)
 unfolding reading
 reading-within s = go (leb (length s) most-bytes) refl
   where
-    go : (b : Bool) → leb (length s) most-bytes ≡ b → AtMost (most-bytes + 2) (cond b (checked (readLines 1 blank (linesOf s))) (refused Limit 0) .verdict)
+    go : (b : Bool) → leb (length s) most-bytes ≡ b → AtMost (most-bytes + 2) (cond b (checked (readAll (linesOf s))) (refused Limit 0) .verdict)
     go true e =
-        checked-within (most-bytes + 2) (readLines 1 blank (linesOf s))
-        (lines-within (most-bytes + 2) 1 blank (linesOf s) (omega arith) (omega (arith, leb-true (length s) most-bytes e, split-length 10 s)) (blank-numbered (most-bytes + 2)))
+        checked-within (most-bytes + 2) (readAll (linesOf s))
+        (all-within (most-bytes + 2) (linesOf s) (omega (arith, leb-true (length s) most-bytes e, split-length 10 s)) (omega arith))
     go false e = refused-within (most-bytes + 2) Limit 0 (omega arith) .line
 
 -- whatever the bytes

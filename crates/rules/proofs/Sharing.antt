@@ -13,7 +13,7 @@ use Rattle.sets.proofs.Members.{has-and, has-none, has-high}
 use Rattle.sets.proofs.Every.{and-first, and-second, and-both, every-at, at-every}
 use Rattle.rules.specs.Limits.{most-bytes, most-inputs}
 use Rattle.rules.specs.Text.{linesOf}
-use Rattle.rules.specs.Listing.{noRow, blank, rowsOf, refused, readLines, shareInput, meets, clash, clashWith, orElse, conflict, judged, checked, reading}
+use Rattle.rules.specs.Listing.{noRow, rowsOf, refused, readAll, shareInput, meets, clash, clashWith, orElse, conflict, judged, checked, reading}
 use Rattle.rules.specs.Cover.{fires}
 use Rattle.rules.specs.declared.Head.{Head}
 use Rattle.rules.specs.declared.Row.{Row}
@@ -133,6 +133,6 @@ pub accepted-apart : (s : List ℕ) → reading s .verdict ≡ Verdict.Accepted 
 unfolding reading
 accepted-apart s = go (leb (length s) most-bytes)
   where
-    go : (b : Bool) → Apart (cond b (checked (readLines 1 blank (linesOf s))) (refused Limit 0))
-    go true = checked-apart (readLines 1 blank (linesOf s))
+    go : (b : Bool) → Apart (cond b (checked (readAll (linesOf s))) (refused Limit 0))
+    go true = checked-apart (readAll (linesOf s))
     go false = refused-apart Limit 0

@@ -1,28 +1,32 @@
 -- What an accepted listing grants: numbers within 01's limits, every row, dichotomy and state's outputs within the head's numbers, and outputs for each state of a
 -- Moore machine.
-use mathlib.Core.Path.{_≡_, refl, sym, subst, _∙_}
-use mathlib.Core.Bool.{Bool, true, false, cond, false≢true}
-use mathlib.Core.List.{List, [], _∷_}
+use mathlib.Core.Path.{_≡_, refl, sym, ap, subst, _∙_}
+use mathlib.Core.Bool.{Bool, true, false, _&&_, cond, false≢true}
+use mathlib.Core.List.{List, [], _∷_, map, List·Memᴰ, List·Memᴰ·head, List·Memᴰ·tail, Memᴰ·of-map}
 use Prim.Native.Nat.{ℕ, zero, suc, _+_, _≤_, _<_}
 use native.Mathlib.Decide.{ℕ-discrete}
 use native.Mathlib.Omega.{arith}
 use lib.Dec.{leb}
-use lib.ListN.{length, getD, set, replicate, length-set, length-replicate}
+use lib.ListN.{length, take, getD, set, replicate, length-take, length-map, length-set, length-replicate}
 use lib.Seq.{length-take-le, getD-take, getD-set-same, getD-set-other}
-use borrow.Author.Tests.{eqb-true}
+use borrow.Author.Tests.{leb-true, eqb-true}
+use Rattle.sets.specs.Sets.{statesFrom}
 use Rattle.rules.specs.Limits.{most-bytes, most-states, most-rows, most-dichotomies}
-use Rattle.rules.specs.Text.{linesOf, markOf, markIs}
+use Rattle.rules.specs.Text.{bytes, same, linesOf, markOf, markIs}
 use Rattle.rules.specs.Lines.{headLine, rowLine, dichotomyLine, outputsLine, endLine}
 use Rattle.rules.specs.Listing.{noPattern, noRow, noRequirement, blank, withHead, withRow, withDichotomy, withOutputs, rowsOf}
 use Rattle.rules.specs.Listing.{Step, goes, ends, stops, onHead, onRow, onDichotomy, onOutputs, onEnd, placed, lineDoes, lineStep}
-use Rattle.rules.specs.Listing.{accepted, refused, nothing, complete, ended, unended, readLines, conflict, judged, checked, reading}
+use Rattle.rules.specs.Listing.{accepted, refused, nothing, complete, ended, unended, readLines, readAll, conflict, judged, checked, reading}
+use Rattle.rules.specs.Listing.{withDichotomies, flowStep, flowGives, flowRead, flowEnded, flowUnended, flowLines}
+use Rattle.rules.specs.FlowTable.{flowAsks, stability}
+use Rattle.rules.specs.FlowLines.{flowHead, entryAt, columnCount, columnsOf, FlowStep, flowGoes, flowEnds, flowStops, flowPlaced}
 use Rattle.rules.specs.declared.Head.{Head}
 use Rattle.rules.specs.declared.Pattern.{Pattern}
 use Rattle.rules.specs.declared.Row.{Row}
 use Rattle.rules.specs.declared.Requirement.{Requirement}
 use Rattle.rules.specs.declared.Listing.{Listing}
 use Rattle.rules.specs.declared.Mark.{Mark}
-use Rattle.rules.specs.declared.Mark.the-variants.{Mc, Mo, Pt, Di, Ou, En, Unknown}
+use Rattle.rules.specs.declared.Mark.the-variants.{Mc, Mo, Pt, Di, Ou, Ft, En, Unknown}
 use Rattle.rules.specs.declared.Refusal.{Refusal}
 use Rattle.rules.specs.declared.Refusal.the-variants.{BadLine, Limit, Place, NoOutputs}
 use Rattle.rules.specs.declared.Verdict.{Verdict}
@@ -32,7 +36,8 @@ use Rattle.rules.specs.declared.DichotomyLine.{DichotomyLine}
 use Rattle.rules.specs.declared.OutputsLine.{OutputsLine}
 use Rattle.rules.specs.declared.EndLine.{EndLine}
 use Rattle.rules.specs.declared.Reading.{Reading}
-use Rattle.rules.proofs.SoundLines.{SoundHead, SoundPattern, SoundRow, SoundBlocks, no-pattern, head-sound, ReadRow, row-read, dichotomy-sound, outputs-sound}
+use Rattle.rules.proofs.SoundLines.{SoundHead, SoundPattern, SoundRow, SoundBlocks, no-pattern, head-sound, head-kind, ReadRow, row-read, dichotomy-sound, outputs-sound}
+use Rattle.rules.proofs.FlowSets.{table-sound}
 use Rattle.rules.proofs.Ways.{chose-first}
 
 pub record Sound (t : Listing) : Type 0 where
@@ -166,6 +171,7 @@ first-sound Mo h given l u p e = head-on true l u e
 first-sound Pt h given l u p e = absurd (false≢true p)
 first-sound Di h given l u p e = absurd (false≢true p)
 first-sound Ou h given l u p e = absurd (false≢true p)
+first-sound Ft h given l u p e = absurd (false≢true p)
 first-sound En h given l u p e = absurd (false≢true p)
 first-sound Unknown h given l u p e = absurd (false≢true p)
 
@@ -185,6 +191,7 @@ first-goes-on Mo h given l p e = on (headLine true l) e
 first-goes-on Pt h given l p e = absurd (false≢true p)
 first-goes-on Di h given l p e = absurd (false≢true p)
 first-goes-on Ou h given l p e = absurd (false≢true p)
+first-goes-on Ft h given l p e = absurd (false≢true p)
 first-goes-on En h given l p e = absurd (false≢true p)
 first-goes-on Unknown h given l p e = absurd (false≢true p)
 
@@ -207,6 +214,7 @@ later-sound Ou k t l u h s p e = on (outputsLine (t .head) l) refl e
     on : (x : OutputsLine) → outputsLine (t .head) l ≡ x → onOutputs x t ≡ goes u → Sound u
     on (OutputsLine.Read n p) q e = subst Sound (goes-same _ _ e) (with-outputs t (n .0) p s (outputs-sound (t .head) l n p q))
     on (OutputsLine.Refused f) q e = absurd (stops-not f u e)
+later-sound Ft k t l u h s p e = absurd (false≢true p)
 later-sound En k t l u h s p e = on (endLine l) e
   where
     on : (x : EndLine) → onEnd x ≡ goes u → Sound u
@@ -280,6 +288,123 @@ first-good (l ∷ (m ∷ ms)) = rw (reads-on 1 blank l m ms) (go (lineStep 1 bla
     go ends e = let p = step-ends 1 blank l e in absurd (first-goes-on (markIs (markOf l)) (blank .head) (blank .given) l (p .0) (p .1))
     go (stops r) e = refused-good r 1
 
+-- ---- a flow table
+
+with-dichotomies : (ds : List Requirement) (t : Listing) → Sound t × (complete (t .head) (t .given) ≡ true) → t .dichotomies + length ds ≤ most-dichotomies
+    → ((d : Requirement) → List·Memᴰ d ds → SoundBlocks (t .head .states) d)
+    → Sound (withDichotomies ds t) × (complete (withDichotomies ds t .head) (withDichotomies ds t .given) ≡ true)
+unfolding withDichotomies
+with-dichotomies [] t s h f = s
+with-dichotomies (d ∷ ds) t s h f =
+    with-dichotomies ds (withDichotomy d t) (with-dichotomy t d (s .0) (omega arith, f d (List·Memᴰ·head refl)), s .1) (omega arith) (λ e m. f e (List·Memᴰ·tail m))
+
+mealy-complete : (h : Head) (given : ℕ) → h .moore ≡ false → complete h given ≡ true
+unfolding complete
+mealy-complete h given e = rw e
+
+-- the head of a flow table
+pub flow-head : (l m : List ℕ) (h : Head) → flowHead l m ≡ HeadLine.Read h → headLine false l ≡ HeadLine.Read h
+unfolding flowHead
+flow-head l m h e = chose-first (same (markOf l) (bytes "MC") && same (markOf m) (bytes "FT")) e (λ q. let z : _≡_ {A = ℕ} 0 1 = cc in omega arith) .1
+
+-- of the lines of n states each column has n entries at most
+column-short : (n k : ℕ) (all : List (List ℕ)) (column : List ℕ) → List·Memᴰ column (columnsOf n k (take n all)) → length column ≤ n
+unfolding columnsOf
+column-short n k all column m =
+    let c = Memᴰ·of-map (λ c. map (entryAt n c) (take n all)) (statesFrom 0 k) m in
+    let e : length (map (entryAt n (c .0)) (take n all)) ≡ length column = ap length (c .2) in
+    omega (arith, e, length-map (take n all) (entryAt n (c .0)), length-take n all)
+
+module _ (h : Head) (all : List (List ℕ)) (s : SoundHead h) (mealy : h .moore ≡ false) where
+  flow-gives : (ds : List Requirement) → ((d : Requirement) → List·Memᴰ d ds → SoundBlocks (h .states) d) → Good (flowGives h ds)
+  unfolding flowGives blank
+  flow-gives ds f = go (leb (length ds) most-dichotomies) refl
+    where
+      go : (b : Bool) → leb (length ds) most-dichotomies ≡ b → Good (cond b (accepted (withDichotomies ds (withHead h blank))) (refused Limit 0))
+      go true e = λ _. with-dichotomies ds (withHead h blank) (with-head h s, mealy-complete h 0 mealy) (omega (arith, leb-true (length ds) most-dichotomies e)) f
+      go false e = refused-good Limit 0
+
+  flow-read : (columns : List (List ℕ)) → ((column : List ℕ) → List·Memᴰ column columns → length column ≤ h .states) → Good (flowRead h columns)
+  unfolding flowRead
+  flow-read columns f = go (stability columns (statesFrom 0 (h .states)))
+    where
+      go : (v : Verdict) → Good (elim v as (λ _. Reading) [ Verdict.Accepted ↦ flowGives h (flowAsks columns) | Verdict.Refused r k ↦ refused r k ])
+      go Verdict.Accepted = flow-gives (flowAsks columns) (table-sound (h .states) columns f)
+      go (Verdict.Refused r k) = refused-good r k
+
+  flow-ended : (k : ℕ) (rest : List (List ℕ)) → Good (flowEnded k h all rest)
+  unfolding flowEnded
+  flow-ended k rest = go (nothing rest)
+    where
+      go : (b : Bool) → Good (cond b (flowRead h (columnsOf (h .states) (columnCount all) (take (h .states) all))) (refused Place (k + 1)))
+      go true = flow-read (columnsOf (h .states) (columnCount all) (take (h .states) all)) (column-short (h .states) (columnCount all) all)
+      go false = refused-good Place (k + 1)
+
+flow-unended : (k n : ℕ) (l : List ℕ) → Good (flowUnended k n l)
+unfolding flowUnended
+flow-unended k n [] = refused-good Place k
+flow-unended k n (x ∷ xs) = go (flowPlaced (markIs (markOf (x ∷ xs))) k n)
+  where
+    go : (b : Bool) → Good (cond b (refused BadLine k) (refused Place k))
+    go true = refused-good BadLine k
+    go false = refused-good Place k
+
+-- what follows line k of a flow table
+unfoldable pub flowAfter : ℕ → Head → List (List ℕ) → List (List ℕ) → FlowStep → Reading
+flowAfter k h all rest s = elim s [ flowGoes ↦ flowLines (k + 1) h all rest | flowEnds ↦ flowEnded k h all rest | flowStops f ↦ refused f k ]
+
+module _ (k : ℕ) (h : Head) (all : List (List ℕ)) where
+  pub flow-on : (l m : List ℕ) (ms : List (List ℕ)) → flowLines k h all (l ∷ (m ∷ ms)) ≡ flowAfter k h all (m ∷ ms) (flowStep k (h .states) (columnCount all) l)
+  unfolding flowLines flowAfter
+  flow-on l m ms = refl
+
+  pub flow-none : flowLines k h all [] ≡ refused Place k
+  unfolding flowLines
+  flow-none = refl
+
+  pub flow-last : (l : List ℕ) → flowLines k h all (l ∷ []) ≡ flowUnended k (h .states) l
+  unfolding flowLines
+  flow-last l = refl
+
+flow-good : (k : ℕ) (h : Head) (all ls : List (List ℕ)) → SoundHead h → h .moore ≡ false → Good (flowLines k h all ls)
+unfolding flowAfter
+flow-good k h all [] s e = rw (flow-none k h all) (refused-good Place k)
+flow-good k h all (l ∷ []) s e = rw (flow-last k h all l) (flow-unended k (h .states) l)
+flow-good k h all (l ∷ (m ∷ ms)) s e = rw (flow-on k h all l m ms) (go (flowStep k (h .states) (columnCount all) l) (flow-good (k + 1) h all (m ∷ ms) s e))
+  where
+    go : (x : FlowStep) → Good (flowLines (k + 1) h all (m ∷ ms)) → Good (flowAfter k h all (m ∷ ms) x)
+    go flowGoes g = g
+    go flowEnds g = flow-ended h all s e k (m ∷ ms)
+    go (flowStops r) g = refused-good r k
+
+-- all lines, of either kind
+unfoldable pub readBy : HeadLine → List ℕ → List (List ℕ) → Reading
+readBy x l rest = elim x [ HeadLine.Read h ↦ flowLines 2 h rest rest | HeadLine.Refused r ↦ readLines 1 blank (l ∷ rest) ]
+
+pub all-two : (l m : List ℕ) (ms : List (List ℕ)) → readAll (l ∷ (m ∷ ms)) ≡ readBy (flowHead l m) l (m ∷ ms)
+unfolding readAll readBy
+all-two l m ms = refl
+
+pub all-one : (l : List ℕ) → readAll (l ∷ []) ≡ readLines 1 blank (l ∷ [])
+unfolding readAll
+all-one l = refl
+
+pub all-none : readAll [] ≡ readLines 1 blank []
+unfolding readAll
+all-none = refl
+
+all-good : (ls : List (List ℕ)) → Good (readAll ls)
+unfolding readBy
+all-good [] = rw all-none (first-good [])
+all-good (l ∷ []) = rw (all-one l) (first-good (l ∷ []))
+all-good (l ∷ (m ∷ ms)) = rw (all-two l m ms) (go (flowHead l m) refl)
+  where
+    go : (x : HeadLine) → flowHead l m ≡ x → Good (readBy x l (m ∷ ms))
+    go (HeadLine.Read h) e = let q = flow-head l m h e in flow-good 2 h (m ∷ ms) (m ∷ ms) (head-sound false l h q) (head-kind false l h q)
+    go (HeadLine.Refused r) e = first-good (l ∷ (m ∷ ms))
+
+-- ---- judged by its rows
+
 judged-good : (v : Verdict) (t : Listing) → Sound t × (complete (t .head) (t .given) ≡ true) → Good (judged v t)
 unfolding refused
 judged-good Verdict.Accepted t s = λ e. s
@@ -301,8 +426,8 @@ accepted-good : (s : List ℕ) → Good (reading s)
 unfolding reading
 accepted-good s = go (leb (length s) most-bytes)
   where
-    go : (b : Bool) → Good (cond b (checked (readLines 1 blank (linesOf s))) (refused Limit 0))
-    go true = checked-good (readLines 1 blank (linesOf s)) (first-good (linesOf s))
+    go : (b : Bool) → Good (cond b (checked (readAll (linesOf s))) (refused Limit 0))
+    go true = checked-good (readAll (linesOf s)) (all-good (linesOf s))
     go false = refused-good Limit 0
 
 pub accepted-sound : (s : List ℕ) → reading s .verdict ≡ Verdict.Accepted → Sound (reading s .listing)

@@ -115,6 +115,28 @@ head-sound m l h e =
     head-numerals m (numeralOf (fieldAt l 1)) (numeralOf (fieldAt l 2)) (numeralOf (fieldAt l 3)) (numeralOf (fieldAt l 4)) (fifthOf l) h
     (chose-first (leb 5 (length (fieldsOf l)) && leb (length (fieldsOf l)) 6) e (head-not BadLine h) .1)
 
+-- it is `MO` that makes a Moore machine
+numbers-kind : (m : Bool) (n i o w k : ℕ) (h : Head) → headNumbers m n i o w k ≡ HeadLine.Read h → h .moore ≡ m
+unfolding headNumbers
+numbers-kind m n i o w k h e =
+    let c = chose-first (leb 1 n && leb n most-states && (leb 1 i && leb i most-inputs) && (leb 1 o && leb o most-outputs) && leb w most-bits && leb k 1) e (head-not Limit h) in
+    ap (λ (h : Head). h .moore) (sym (head-same _ _ (c .1)))
+
+numerals-kind : (m : Bool) (n i o w k : Numeral) (h : Head) → headNumerals m n i o w k ≡ HeadLine.Read h → h .moore ≡ m
+unfolding headNumerals
+numerals-kind m (Is n) (Is i) (Is o) (Is w) (Is k) h e = numbers-kind m n i o w k h e
+numerals-kind m (Is n) (Is i) (Is o) (Is w) Bad h e = absurd (head-not BadLine h e)
+numerals-kind m (Is n) (Is i) (Is o) Bad k h e = absurd (head-not BadLine h e)
+numerals-kind m (Is n) (Is i) Bad w k h e = absurd (head-not BadLine h e)
+numerals-kind m (Is n) Bad o w k h e = absurd (head-not BadLine h e)
+numerals-kind m Bad i o w k h e = absurd (head-not BadLine h e)
+
+pub head-kind : (m : Bool) (l : List ℕ) (h : Head) → headLine m l ≡ HeadLine.Read h → h .moore ≡ m
+unfolding headLine
+head-kind m l h e =
+    numerals-kind m (numeralOf (fieldAt l 1)) (numeralOf (fieldAt l 2)) (numeralOf (fieldAt l 3)) (numeralOf (fieldAt l 4)) (fifthOf l) h
+    (chose-first (leb 5 (length (fieldsOf l)) && leb (length (fieldsOf l)) 6) e (head-not BadLine h) .1)
+
 -- ---- a row's line
 
 row-same : (a b : Row) → RowLine.Read a ≡ RowLine.Read b → a ≡ b

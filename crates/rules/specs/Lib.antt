@@ -3,6 +3,8 @@ pub mod Refusals
 pub mod Cases
 pub mod Text
 pub mod Lines
+pub mod FlowTable
+pub mod FlowLines
 pub mod Listing
 pub mod Requirements
 pub mod Looks

@@ -24,6 +24,10 @@ most-lines = 192
 abbrev pub most-dichotomies : ℕ
 most-dichotomies = 64
 
+-- the columns of a flow table (02, request 05)
+abbrev pub most-columns : ℕ
+most-columns = 16
+
 -- pairs, groups and dichotomies together: 2,016 + 7,936 + 64
 abbrev pub most-asked : ℕ
 most-asked = 10016

@@ -1,21 +1,24 @@
--- 01, "The listing" and the order of its refusals, with 02, request 13: lines from the top, the first faulty line decides, then a state without outputs, then the conflict.
+-- 01, "The listing" and the order of its refusals, with 02, requests 05 and 13: lines from the top, the first faulty line decides, then a state without outputs, then the
+-- conflict; of a flow table, then a destination that is not stable, then too many dichotomies.
 use mathlib.Core.Bool.{Bool, true, false, _&&_, _||_, not, cond}
 use mathlib.Core.List.{List, [], _∷_, _++_}
 use Prim.Native.Nat.{ℕ, _+_}
 use lib.ListN.{length, take, set, replicate}
 use lib.Dec.{leb, eqb}
 use lib.Bits.{bitAnd, bitOr}
-use Rattle.sets.specs.Sets.{has, only, everyone, every}
+use Rattle.sets.specs.Sets.{has, only, everyone, every, statesFrom}
 use Rattle.rules.specs.Limits.{most-bytes, most-states, most-inputs, most-rows, most-dichotomies}
 use Rattle.rules.specs.Text.{split, linesOf, fieldAt, markOf, markIs, numeralOf}
 use Rattle.rules.specs.Lines.{headLine, rowLine, dichotomyLine, outputsLine, endLine}
+use Rattle.rules.specs.FlowTable.{flowAsks, stability}
+use Rattle.rules.specs.FlowLines.{flowHead, columnCount, columnsOf, FlowStep, flowGoes, flowEnds, flowStops, flowPlaced, flowDoes}
 use Rattle.rules.specs.declared.Head.{Head}
 use Rattle.rules.specs.declared.Pattern.{Pattern}
 use Rattle.rules.specs.declared.Row.{Row}
 use Rattle.rules.specs.declared.Requirement.{Requirement}
 use Rattle.rules.specs.declared.Listing.{Listing}
 use Rattle.rules.specs.declared.Mark.{Mark}
-use Rattle.rules.specs.declared.Mark.the-variants.{Mc, Mo, Pt, Di, Ou, En, Unknown}
+use Rattle.rules.specs.declared.Mark.the-variants.{Mc, Mo, Pt, Di, Ou, Ft, En, Unknown}
 use Rattle.rules.specs.declared.Numeral.the-variants.{Is, Bad}
 use Rattle.rules.specs.declared.Refusal.{Refusal}
 use Rattle.rules.specs.declared.Refusal.the-variants.{BadLine, Limit, Place, Conflict, NoOutputs}
@@ -146,7 +149,8 @@ unfoldable pub hadOutputs : ℕ → List ℕ → Bool
 unfolding split numeralOf
 hadOutputs given l = elim (numeralOf (fieldAt l 1)) [ Is s ↦ eqb (has given s) 1 | Bad ↦ false ]
 
--- The place of line k, under the head h and behind `OU` lines of the states given: `MC` or `MO` is line 1 and no other; `OU` stands under `MO`, once for a state.
+-- The place of line k, under the head h and behind `OU` lines of the states given: `MC` or `MO` is line 1 and no other; `OU` stands under `MO`,
+-- once for a state; `FT` stands in a flow table alone.
 unfoldable pub placed : Mark → ℕ → Head → ℕ → List ℕ → Bool
 unfolding hadOutputs
 placed Mc k h given l = eqb k 1
@@ -154,6 +158,7 @@ placed Mo k h given l = eqb k 1
 placed Pt k h given l = not (eqb k 1)
 placed Di k h given l = not (eqb k 1)
 placed Ou k h given l = not (eqb k 1) && (h .moore && not (hadOutputs given l))
+placed Ft k h given l = false
 placed En k h given l = not (eqb k 1)
 placed Unknown k h given l = not (eqb k 1)
 
@@ -165,6 +170,7 @@ lineDoes Mo k t l = onHead (headLine true l) t
 lineDoes Pt k t l = onRow (rowLine (t .head) (t .rows) k l) t
 lineDoes Di k t l = onDichotomy (dichotomyLine (t .head) (t .dichotomies) l) t
 lineDoes Ou k t l = onOutputs (outputsLine (t .head) l) t
+lineDoes Ft k t l = stops BadLine
 lineDoes En k t l = onEnd (endLine l)
 lineDoes Unknown k t l = stops BadLine
 
@@ -208,6 +214,63 @@ readLines k t (l ∷ (m ∷ ms)) =
       | goes u ↦ readLines (k + 1) u (m ∷ ms)
       | ends ↦ ended k t (m ∷ ms)
       | stops r ↦ refused r k
+    ]
+
+-- ---- the lines of a flow table
+
+-- line k, of n states and so many columns: out of its place it is 3
+unfoldable pub flowStep : ℕ → ℕ → ℕ → List ℕ → FlowStep
+unfolding flowPlaced flowDoes markOf markIs
+flowStep k n columns l = cond (flowPlaced (markIs (markOf l)) k n) (flowDoes (markIs (markOf l)) n columns l) (flowStops Place)
+
+-- some dichotomies in place of `DI`
+unfoldable pub withDichotomies : List Requirement → Listing → Listing
+withDichotomies [] t = t
+withDichotomies (d ∷ ds) t = withDichotomies ds (withDichotomy d t)
+
+-- more than 64 are too many
+unfoldable pub flowGives : Head → List Requirement → Reading
+unfolding blank refused withDichotomies
+flowGives h ds = cond (leb (length ds) most-dichotomies) (accepted (withDichotomies ds (withHead h blank))) (refused Limit 0)
+
+-- what a table of these columns gives, if each destination is stable
+unfoldable pub flowRead : Head → List (List ℕ) → Reading
+unfolding refused flowGives flowAsks stability statesFrom
+flowRead h columns = elim (stability columns (statesFrom 0 (h .states))) [ Verdict.Accepted ↦ flowGives h (flowAsks columns) | Verdict.Refused r k ↦ refused r k ]
+
+-- after `EN`, which stood on line k: bytes after it are 3
+unfoldable pub flowEnded : ℕ → Head → List (List ℕ) → List (List ℕ) → Reading
+unfolding refused nothing flowRead columnsOf columnCount
+flowEnded k h all rest = cond (nothing rest) (flowRead h (columnsOf (h .states) (columnCount all) (take (h .states) all))) (refused Place (k + 1))
+
+-- what stands behind the last LF, as line k
+unfoldable pub flowUnended : ℕ → ℕ → List ℕ → Reading
+unfolding refused flowPlaced markOf markIs
+flowUnended k n [] = refused Place k
+flowUnended k n (x ∷ xs) = cond (flowPlaced (markIs (markOf (x ∷ xs))) k n) (refused BadLine k) (refused Place k)
+
+-- the lines from number k on, of all those behind the head
+unfoldable pub flowLines : ℕ → Head → List (List ℕ) → List (List ℕ) → Reading
+unfolding refused flowUnended flowEnded flowStep columnCount
+flowLines k h all [] = refused Place k
+flowLines k h all (l ∷ []) = flowUnended k (h .states) l
+flowLines k h all (l ∷ (m ∷ ms)) =
+    elim (flowStep k (h .states) (columnCount all) l) [
+      | flowGoes ↦ flowLines (k + 1) h all (m ∷ ms)
+      | flowEnds ↦ flowEnded k h all (m ∷ ms)
+      | flowStops r ↦ refused r k
+    ]
+
+-- ---- all lines: those of a flow table, or of an ordinary listing
+
+unfoldable pub readAll : List (List ℕ) → Reading
+unfolding readLines blank flowHead flowLines
+readAll [] = readLines 1 blank []
+readAll (l ∷ []) = readLines 1 blank (l ∷ [])
+readAll (l ∷ (m ∷ ms)) =
+    elim (flowHead l m) [
+      | HeadLine.Read h ↦ flowLines 2 h (m ∷ ms) (m ∷ ms)
+      | HeadLine.Refused r ↦ readLines 1 blank (l ∷ (m ∷ ms))
     ]
 
 -- ---- the conflict
@@ -261,5 +324,5 @@ checked r = elim (r .verdict) [ Verdict.Accepted ↦ judged (conflict (rowsOf (r
 
 -- any bytes at all: the listing, or the refusal and its line
 unfoldable pub reading : List ℕ → Reading
-unfolding split readLines conflict refused blank
-reading s = cond (leb (length s) most-bytes) (checked (readLines 1 blank (linesOf s))) (refused Limit 0)
+unfolding split readAll conflict refused
+reading s = cond (leb (length s) most-bytes) (checked (readAll (linesOf s))) (refused Limit 0)

@@ -9,7 +9,7 @@ use lib.Dec.{leb, ltb, eqb}
 use Rattle.rules.specs.declared.Numeral.{Numeral}
 use Rattle.rules.specs.declared.Numeral.the-variants.{Is, Bad}
 use Rattle.rules.specs.declared.Mark.{Mark}
-use Rattle.rules.specs.declared.Mark.the-variants.{Mc, Mo, Pt, Di, Ou, En, Unknown}
+use Rattle.rules.specs.declared.Mark.the-variants.{Mc, Mo, Pt, Di, Ou, Ft, En, Unknown}
 
 -- a text as bytes
 abbrev pub bytes : String → List ℕ
@@ -88,7 +88,8 @@ markIs m =
     (cond (same m (bytes "PT")) Pt
     (cond (same m (bytes "DI")) Di
     (cond (same m (bytes "OU")) Ou
-    (cond (same m (bytes "EN")) En Unknown)))))
+    (cond (same m (bytes "FT")) Ft
+    (cond (same m (bytes "EN")) En Unknown))))))
 
 -- ---- characters
 

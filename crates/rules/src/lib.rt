@@ -16,6 +16,12 @@ pub const MOST_ROWS: usize = 128;
 
 pub const MOST_DICHOTOMIES: usize = 64;
 
+// The columns of a flow table.
+pub const MOST_COLUMNS: usize = 16;
+
+// A dash in a flow table: no state has this number.
+pub const NO_STATE: u8 = 64;
+
 // A dash at every input that there can be.
 pub const EVERY_INPUT: u32 = 65535;
 
@@ -98,7 +104,7 @@ pub struct Listing {
     pub given: u64,
 }
 
-// Why a call is refused, in the order of their numbers, of which 8 is unused.
+// Why a call is refused, in the order of their numbers, of which 8 is unused and 12 not yet given.
 pub enum Refusal {
     BadLine,
     Limit,
@@ -110,6 +116,7 @@ pub enum Refusal {
     Unmet,
     NoRoom,
     BadCall,
+    Unstable,
     NoOutputs,
 }
 
@@ -129,6 +136,7 @@ impl Refusal {
             Refusal::Unmet => 9,
             Refusal::NoRoom => 10,
             Refusal::BadCall => 11,
+            Refusal::Unstable => 13,
             Refusal::NoOutputs => 17,
         }
     }
@@ -147,6 +155,7 @@ pub enum Mark {
     Pt,
     Di,
     Ou,
+    Ft,
     En,
     Unknown,
 }
@@ -179,6 +188,12 @@ pub enum OutputsLine {
 }
 
 pub enum EndLine {
+    Read,
+    Refused(Refusal),
+}
+
+// The entries of a flow table's line are read one by one, from the line.
+pub enum FlowLine {
     Read,
     Refused(Refusal),
 }
