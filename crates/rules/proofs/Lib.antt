@@ -38,6 +38,8 @@ pub mod Written
 pub mod Agreeing
 pub mod Moore
 pub mod Reported
+pub mod FlowGiven
+pub mod Races
 pub mod Parts
 pub mod Wider
 pub mod WiderReports

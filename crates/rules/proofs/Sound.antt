@@ -308,7 +308,7 @@ unfolding flowHead
 flow-head l m h e = chose-first (same (markOf l) (bytes "MC") && same (markOf m) (bytes "FT")) e (λ q. let z : _≡_ {A = ℕ} 0 1 = cc in omega arith) .1
 
 -- of the lines of n states each column has n entries at most
-column-short : (n k : ℕ) (all : List (List ℕ)) (column : List ℕ) → List·Memᴰ column (columnsOf n k (take n all)) → length column ≤ n
+pub column-short : (n k : ℕ) (all : List (List ℕ)) (column : List ℕ) → List·Memᴰ column (columnsOf n k (take n all)) → length column ≤ n
 unfolding columnsOf
 column-short n k all column m =
     let c = Memᴰ·of-map (λ c. map (entryAt n c) (take n all)) (statesFrom 0 k) m in
