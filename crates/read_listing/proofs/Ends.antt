@@ -9,34 +9,18 @@ use lib.Seq.{take-all}
 use lib.Dec.{eqb}
 use Rattle.sets.specs.Sets.{has, every}
 use Rattle.sets.proofs.Every.{every-at, at-every}
-use Rattle.rules.specs.Text.{push, split, linesOf, markOf, markIs}
-use Rattle.rules.specs.Listing.{nothing, placed, rowsOf, accepted, refused, complete, ended, unended, orElse, conflict, judged, checked}
+use Rattle.rules.specs.Text.{linesOf, markOf, markIs}
+use Rattle.rules.specs.Listing.{placed, rowsOf, accepted, refused, complete, ended, unended, orElse, conflict, judged, checked}
 use Rattle.rules.specs.declared.Head.{Head}
 use Rattle.rules.specs.declared.Listing.{Listing}
 use Rattle.rules.specs.declared.Refusal.the-variants.{BadLine, Place, NoOutputs}
 use Rattle.rules.specs.declared.Verdict.{Verdict}
-use Rattle.read_pieces.proofs.Laws.{part, split-some}
+use Rattle.read_pieces.proofs.Laws.{part}
+use Rattle.read_pieces.proofs.Nothing.{none-behind, some-behind}
 use Rattle.read_listing.specs.Says.{outputsVerdict}
 use Rattle.read_listing.proofs.Whole.{checked-refused, checked-accepted}
 
 -- ---- bytes behind `EN`
-
-pub none-behind : (s : List ℕ) → length s ≡ 0 → nothing (linesOf s) ≡ true
-unfolding split nothing
-none-behind [] h = refl
-none-behind (x ∷ xs) h = absurd (omega arith)
-
-cond-behind : (b : Bool) (x : ℕ) (ps : List (List ℕ)) → 1 ≤ length ps → nothing (cond b ([] ∷ ps) (push x ps)) ≡ false
-unfolding nothing
-cond-behind true x [] h = absurd (omega arith)
-cond-behind true x (p ∷ ps) h = refl
-cond-behind false x [] h = refl
-cond-behind false x (p ∷ ps) h = refl
-
-pub some-behind : (s : List ℕ) → (length s ≡ 0 → ⊥) → nothing (linesOf s) ≡ false
-unfolding split
-some-behind [] h = absurd (h refl)
-some-behind (x ∷ xs) h = cond-behind (eqb x 10) x (split 10 xs) (split-some 10 xs)
 
 -- the bytes from a on
 pub ended-is : (k : ℕ) (t : Listing) (s : List ℕ) (a : ℕ) → ended k t (linesOf (drop a s)) ≡ ended k t (linesOf (part s a (length s)))

@@ -1,4 +1,4 @@
-// The mark that leads a line, its whole first field compared with six fixed strings, and the end line, which is its mark alone. A line comes without its LF.
+// The mark that leads a line, its whole first field compared with seven fixed strings, and the end line, which is its mark alone. A line comes without its LF.
 ghost use mathlib.Core.Path.{_≡_};
 ghost use Rattle.rules.specs.Text.{same, markOf, markIs};
 ghost use Rattle.rules.specs.Lines.{endLine};
@@ -41,6 +41,9 @@ fn mark_in(f: &[u8]) -> Mark
     if is_mark(f, b"OU") {
         return Mark::Ou;
     }
+    if is_mark(f, b"FT") {
+        return Mark::Ft;
+    }
     if is_mark(f, b"EN") {
         return Mark::En;
     }
@@ -52,6 +55,13 @@ pub fn mark_of(l: &[u8]) -> Mark
     ensures { λ r. ⌜ r ≡ markIs (markOf (now (l .entry))) ⌝ }
 {
     mark_in(field(l, 0))
+}
+
+// Whether the mark m leads a line.
+pub fn leads(l: &[u8], m: &[u8; 2]) -> bool
+    ensures { λ r. ⌜ r ≡ same (markOf (now (l .entry))) (twoOf (now (m .entry))) ⌝ }
+{
+    is_mark(field(l, 0), m)
 }
 
 // What an `EN` line says: it is the mark alone.

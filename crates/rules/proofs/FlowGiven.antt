@@ -1,15 +1,14 @@
 -- What an accepted flow table gives: a listing without rows, whose requirements are the pairs of its states and then the dichotomies of its columns, in which each destination is
 -- stable.
-use mathlib.Core.Path.{_≡_, refl, sym, ap, subst, _∙_}
-use mathlib.Core.Bool.{Bool, true, false, cond, false≢true}
+use mathlib.Core.Path.{_≡_, refl, sym, ap, _∙_}
+use mathlib.Core.Bool.{Bool, true, false, cond}
 use mathlib.Core.List.{List, [], _∷_, _++_, append-assoc}
 use Prim.Native.Nat.{ℕ, zero, suc, _+_, _≤_, _<_}
 use native.Mathlib.Numerals.{add-one}
-use native.Mathlib.Nat.{add-zero}
 use native.Mathlib.Decide.{ℕ-discrete}
 use native.Mathlib.Omega.{arith}
 use lib.Dec.{leb}
-use lib.ListN.{length, take, set, replicate, length-set, length-replicate}
+use lib.ListN.{length, take, set, length-set, length-replicate}
 use lib.Seq.{take-suc-set}
 use borrow.Author.Tests.{leb-true}
 use Rattle.sets.specs.Sets.{statesFrom}
@@ -28,7 +27,6 @@ use Rattle.rules.specs.declared.Refusal.the-variants.{BadLine, Limit, Pl
 use Rattle.rules.specs.declared.Verdict.{Verdict}
 use Rattle.rules.specs.declared.HeadLine.{HeadLine}
 use Rattle.rules.specs.declared.Reading.{Reading}
-use Rattle.rules.proofs.Ways.{chose-first}
 use Rattle.rules.proofs.Sound.{flowAfter, flow-on, flow-none, flow-last, readBy, all-two}
 
 -- the bytes s are a flow table, with the head h and these columns

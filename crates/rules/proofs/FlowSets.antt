@@ -4,16 +4,16 @@ use mathlib.Core.Logic.{_⊎_, inl, inr, ⊎-elim}
 use mathlib.Core.Bool.{Bool, true, false, _&&_}
 use mathlib.Core.List.{List, [], _∷_, _++_, map, List·Memᴰ, List·Memᴰ·head, List·Memᴰ·tail, List·Memᴰ·not-nil, List·Memᴰ·cases-cons, List·Memᴰ·append-cases}
 use mathlib.Core.List.{Memᴰ·cast, Memᴰ·map, Memᴰ·of-map, Memᴰ·append-left, Memᴰ·append-right}
-use Prim.Native.Nat.{ℕ, _^_, _≤_, _<_, max}
+use Prim.Native.Nat.{ℕ, _^_, _≤_, _<_}
 use native.Mathlib.Decide.{ℕ-discrete}
 use native.Mathlib.Omega.{arith}
 use lib.Pow.{pow-mono}
-use lib.Dec.{ltb, eqb}
+use lib.Dec.{eqb}
 use lib.Bits.{bitOr}
 use lib.ListN.{length}
 use borrow.Author.Tests.{ltb-true, lt-ltb, eqb-true, eq-eqb}
 use Rattle.sets.specs.Sets.{has, only}
-use Rattle.sets.proofs.Members.{has-or, has-only, has-other, has-none, has-lt}
+use Rattle.sets.proofs.Members.{has-or, has-only, has-other}
 use Rattle.sets.proofs.Every.{and-first, and-second, and-both}
 use Rattle.rules.specs.Text.{setOf}
 use Rattle.rules.specs.FlowTable.{noState, isState, destinationsFrom, setsOf, setPairs, flowAsks}

@@ -1,34 +1,34 @@
 -- What a flow table is for (001, section VI.A): where the code leaves nothing unmet there is no critical race, and else the report lists exactly the pairs of sets that may race.
-use mathlib.Core.Path.{_≡_, refl, sym, ap, subst, _∙_}
+use mathlib.Core.Path.{_≡_, sym, ap, subst, _∙_}
 use mathlib.Core.Logic.{_↔_, _⊎_, inl, inr, ⊎-elim}
-use mathlib.Core.Bool.{Bool, true, false, _||_, not, true≢false}
-use mathlib.Core.List.{List, [], _∷_, _++_, map, List·Memᴰ, List·Memᴰ·head, List·Memᴰ·tail, List·Memᴰ·not-nil, List·Memᴰ·cases-cons, Memᴰ·append-right}
-use Prim.Native.Nat.{ℕ, zero, suc, _+_, _-_, _*_, _/_, _%_, _^_, _≤_, _<_}
+use mathlib.Core.Bool.{Bool, true, false, true≢false}
+use mathlib.Core.List.{List, [], _∷_, _++_, List·Memᴰ, List·Memᴰ·not-nil, List·Memᴰ·cases-cons, Memᴰ·append-right}
+use Prim.Native.Nat.{ℕ, zero, suc, _+_, _-_, _*_, _/_, _≤_, _<_}
 use native.Mathlib.Decide.{decLt}
 use native.Mathlib.Omega.{arith}
-use lib.Dec.{ltb, eqb}
+use lib.Dec.{eqb}
 use lib.ListN.{length, getD, length-append, List·getD-eq-default}
 use lib.Seq.{getD-append-add}
 use borrow.Author.Tests.{lt-ltb, eqb-true, eq-eqb}
 use Rattle.sets.specs.Sets.{has, statesFrom}
-use Rattle.sets.proofs.Members.{has-lt, has-zero, has-suc, has-none}
+use Rattle.sets.proofs.Members.{has-zero, has-suc, has-none}
 use Rattle.sets.proofs.Every.{and-first, and-second}
 use Rattle.rules.specs.Text.{digit, setOf}
-use Rattle.rules.specs.FlowTable.{noState, isState, destinationsFrom, flowAsks, isStable, goesWell}
+use Rattle.rules.specs.FlowTable.{noState, destinationsFrom, flowAsks, isStable, goesWell}
 use Rattle.rules.specs.FlowLines.{columnCount}
 use Rattle.rules.specs.Listing.{noRequirement, reading}
 use Rattle.rules.specs.Requirements.{met, pairs, requirements}
-use Rattle.rules.specs.Code.{Code, Coding, coded, coding, unmet}
-use Rattle.rules.specs.Answers.{Reply, says, reportReply}
+use Rattle.rules.specs.Code.{unmet}
+use Rattle.rules.specs.Answers.{says, reportReply}
 use Rattle.rules.specs.declared.Head.{Head}
 use Rattle.rules.specs.declared.Requirement.{Requirement}
 use Rattle.rules.specs.declared.Verdict.{Verdict}
-use Rattle.rules.proofs.Judged.{FirstMeets, MetByNone, first-or-none}
+use Rattle.rules.proofs.Judged.{MetByNone, first-or-none}
 use Rattle.rules.proofs.Meeting.{Split, met-means, means-met}
 use Rattle.rules.proofs.Unmet.{mem-at, unmet-listed}
 use Rattle.rules.proofs.SoundLines.{head-sound}
 use Rattle.rules.proofs.Sound.{flow-head, column-short}
-use Rattle.rules.proofs.FlowSets.{NewAmong, destination-new, destination-listed, between, Between, OfColumn, of-table, in-table}
+use Rattle.rules.proofs.FlowSets.{destination-listed, between, OfColumn, of-table, in-table}
 use Rattle.rules.proofs.FlowGiven.{IsFlow, FlowGiven, flow-given}
 use Rattle.rules.proofs.Ended.{HasLine}
 use Rattle.rules.proofs.Reported.{unText, reported}

@@ -1,4 +1,4 @@
--- `read_marks::mark_in` meets its contract: the first of the six marks that the field is.
+-- `read_marks::mark_in` meets its contract: the first of the seven marks that the field is.
 use mathlib.Core.Path.{_≡_, sym, _∙_}
 use mathlib.Core.Bool.{false}
 use borrow.Author.Needs.{needs}
@@ -77,14 +77,32 @@ returns-6 c =
     let b = d .before .before .before in
     rw (not-mc (b .before .before .before), not-mo b, not-pt d, not-di e, not-ou o, sym (c .before .is-mark6 .ensures) ∙ c .if6 .taken)
 
+not-ft : (c : tie.Else6)
+    → same (c .before .before .before .before .before .before .before .before .before .before .before .before .before .before .before .before .before .before .before .args .f .now) (bytes "FT") ≡ false
+not-ft c = sym (c .before .is-mark6 .ensures) ∙ c .if6 .left
+
+is-mark-requires-7 : tie.Need-is-mark-requires-7
+is-mark-requires-7 c κs = search needs
+
 returns-7 : tie.Need-returns-7
 unfolding markIs
 returns-7 c =
-    let o = c .before .before .before in
+    let f = c .before .before .before in
+    let o = f .before .before .before in
     let e = o .before .before .before in
     let d = e .before .before .before in
     let b = d .before .before .before in
-    rw (not-mc (b .before .before .before), not-mo b, not-pt d, not-di e, not-ou o, sym (c .before .is-mark6 .ensures) ∙ c .if6 .left)
+    rw (not-mc (b .before .before .before), not-mo b, not-pt d, not-di e, not-ou o, not-ft f, sym (c .before .is-mark7 .ensures) ∙ c .if7 .taken)
+
+returns-8 : tie.Need-returns-8
+unfolding markIs
+returns-8 c =
+    let f = c .before .before .before in
+    let o = f .before .before .before in
+    let e = o .before .before .before in
+    let d = e .before .before .before in
+    let b = d .before .before .before in
+    rw (not-mc (b .before .before .before), not-mo b, not-pt d, not-di e, not-ou o, not-ft f, sym (c .before .is-mark7 .ensures) ∙ c .if7 .left)
 
 pub mark-in-spec : {M : Type 1} → statement M
 mark-in-spec =
@@ -102,4 +120,6 @@ mark-in-spec =
     returns-5
     is-mark-requires-6
     returns-6
-    returns-7)
+    is-mark-requires-7
+    returns-7
+    returns-8)
