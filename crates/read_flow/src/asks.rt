@@ -12,7 +12,10 @@ ghost use Rattle.read_flow.specs.Table.{columnsIn};
 ghost use Rattle.read_flow.specs.Gathering.{nothing, between, withAsked, withAll, noSets, withEntry};
 use rules::Requirement;
 
-// The first 64 dichotomies, and how many there were: 65 stands for more.
+// How many dichotomies there were, if more than 64.
+const MANY: usize = 65;
+
+// The first 64 dichotomies, and how many there were, or that there were more.
 pub struct Gathered {
     pub count: usize,
     pub asked: [Requirement; rules::MOST_DICHOTOMIES],
@@ -46,7 +49,7 @@ fn with_asked(g: Gathered, first: u64, second: u64) -> Gathered
     let n = g.count;
     let mut more = g;
     if rules::MOST_DICHOTOMIES <= n {
-        more.count = 65;
+        more.count = MANY;
         return more;
     }
     more.asked[n] = Requirement {
@@ -179,7 +182,7 @@ pub fn gather(table: &[u8], n: usize, columns: usize) -> Gathered
     let mut more = none_asked();
     let mut c: usize = 0;
     while c < columns {
-        let at = c * 64;
+        let at = c * rules::MOST_STATES;
         let end = at + n;
         more = with_column(more, &table[at..end]);
         c += 1;

@@ -20,12 +20,12 @@ fn is_dash(f: &[u8]) -> bool
     f[0] == b'-'
 }
 
-// What a field says as an entry: a state number below n, or a dash.
+// What a field says as an entry: a state number below n, or a dash, which has the number that no state has.
 fn entry_of(n: usize, f: &[u8]) -> Numeral
     ensures { λ r. ⌜ r ≡ entryOf n (now (f .entry)) ⌝ }
 {
     if is_dash(f) {
-        return Numeral::Is(64);
+        return Numeral::Is(rules::MOST_STATES);
     }
     let got = read_fields::numeral_of(f);
     let Numeral::Is(v) = got else {
@@ -111,7 +111,7 @@ pub fn with_line(table: [u8; PLACES], s: usize, n: usize, columns: usize, l: &[u
     let mut filled = table;
     let mut c: usize = 0;
     while c < columns {
-        let at = c * 64 + s;
+        let at = c * rules::MOST_STATES + s;
         filled[at] = value_at(n, l, c);
         c += 1;
     }

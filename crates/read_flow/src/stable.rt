@@ -37,7 +37,7 @@ fn goes_well(table: &[u8], n: usize, columns: usize, s: usize) -> bool
 {
     let mut c: usize = 0;
     while c < columns {
-        let at = c * 64;
+        let at = c * rules::MOST_STATES;
         let end = at + n;
         if !goes_well_in(&table[at..end], s) {
             return false;

@@ -14,7 +14,7 @@ use Rattle.rules.specs.Listing.{blank, withOutputs, placed}
 use Rattle.rules.specs.declared.Pattern.{Pattern}
 use Rattle.rules.specs.declared.Listing.{Listing}
 use Rattle.rules.specs.declared.Mark.{Mark}
-use Rattle.rules.specs.declared.Mark.the-variants.{Mc, Mo, Pt, Di, Ou, En, Unknown}
+use Rattle.rules.specs.declared.Mark.the-variants.{Mc, Mo, Pt, Di, Ou, Ft, En, Unknown}
 use Rattle.rules.specs.declared.HeadLine.{HeadLine}
 use Rattle.rules.specs.declared.RowLine.{RowLine}
 use Rattle.rules.specs.declared.DichotomyLine.{DichotomyLine}
@@ -60,6 +60,7 @@ placed-has-room Mo k t l = head-has-room (headLine true l) t true l refl
 placed-has-room Pt k t l = row-has-room (rowLine (t .head) (t .rows) k l) t k l refl
 placed-has-room Di k t l = dichotomy-has-room (dichotomyLine (t .head) (t .dichotomies) l) t l refl
 placed-has-room Ou k t l = outputs-has-room (outputsLine (t .head) l) t l refl
+placed-has-room Ft k t l = tt
 placed-has-room En k t l = end-has-room (endLine l) t
 placed-has-room Unknown k t l = tt
 

@@ -10,7 +10,7 @@ use Rattle.rules.specs.Listing.{onHead, onRow, onDichotomy, onOutputs, onEnd, h
 use Rattle.rules.specs.declared.Head.{Head}
 use Rattle.rules.specs.declared.Listing.{Listing}
 use Rattle.rules.specs.declared.Mark.{Mark}
-use Rattle.rules.specs.declared.Mark.the-variants.{Mc, Mo, Pt, Di, Ou, En, Unknown}
+use Rattle.rules.specs.declared.Mark.the-variants.{Mc, Mo, Pt, Di, Ou, Ft, En, Unknown}
 use Rattle.rules.specs.declared.Refusal.the-variants.{Place}
 use Rattle.rules.specs.declared.HeadLine.{HeadLine}
 use Rattle.rules.specs.declared.RowLine.{RowLine}
@@ -47,6 +47,7 @@ placed-step Mo k t l = head-step (headLine true l) t
 placed-step Pt k t l = row-step (rowLine (t .head) (t .rows) k l) t
 placed-step Di k t l = dichotomy-step (dichotomyLine (t .head) (t .dichotomies) l) t
 placed-step Ou k t l = outputs-step (outputsLine (t .head) l) t
+placed-step Ft k t l = refl
 placed-step En k t l = end-step (endLine l) t
 placed-step Unknown k t l = refl
 

@@ -6,7 +6,7 @@ use lib.ListN.{length}
 use borrow.Author.Tests.{le-leb, lt-leb}
 use Rattle.rules.specs.Limits.{most-bytes}
 use Rattle.rules.specs.Text.{linesOf}
-use Rattle.rules.specs.Listing.{blank, rowsOf, accepted, refused, readLines, conflict, judged, checked, reading}
+use Rattle.rules.specs.Listing.{rowsOf, accepted, refused, readAll, conflict, judged, checked, reading}
 use Rattle.rules.specs.declared.Listing.{Listing}
 use Rattle.rules.specs.declared.Refusal.{Refusal}
 use Rattle.rules.specs.declared.Refusal.the-variants.{Limit}
@@ -16,7 +16,7 @@ pub too-long : (s : List ℕ) → most-bytes < length s → reading s ≡ refuse
 unfolding reading
 too-long s h = rw (lt-leb _ _ h)
 
-pub short : (s : List ℕ) → length s ≤ most-bytes → reading s ≡ checked (readLines 1 blank (linesOf s))
+pub short : (s : List ℕ) → length s ≤ most-bytes → reading s ≡ checked (readAll (linesOf s))
 unfolding reading
 short s h = rw (le-leb _ _ h)
 

@@ -4,11 +4,11 @@ use mathlib.Core.List.{List}
 use Prim.Native.Nat.{ℕ}
 use Rattle.rules.specs.Text.{markOf, markIs}
 use Rattle.rules.specs.Lines.{headLine, rowLine, dichotomyLine, outputsLine, endLine}
-use Rattle.rules.specs.Listing.{withHead, withRow, withDichotomy, withOutputs, placed, Step, goes, ends, stops, complete}
+use Rattle.rules.specs.Listing.{blank, withHead, withRow, withDichotomy, withOutputs, accepted, refused, placed, Step, goes, ends, stops, complete}
 use Rattle.rules.specs.declared.Head.{Head}
 use Rattle.rules.specs.declared.Listing.{Listing}
 use Rattle.rules.specs.declared.Mark.{Mark}
-use Rattle.rules.specs.declared.Mark.the-variants.{Mc, Mo, Pt, Di, Ou, En, Unknown}
+use Rattle.rules.specs.declared.Mark.the-variants.{Mc, Mo, Pt, Di, Ou, Ft, En, Unknown}
 use Rattle.rules.specs.declared.Refusal.{Refusal}
 use Rattle.rules.specs.declared.Refusal.the-variants.{BadLine, Place, NoOutputs}
 use Rattle.rules.specs.declared.Verdict.{Verdict}
@@ -17,6 +17,8 @@ use Rattle.rules.specs.declared.RowLine.{RowLine}
 use Rattle.rules.specs.declared.DichotomyLine.{DichotomyLine}
 use Rattle.rules.specs.declared.OutputsLine.{OutputsLine}
 use Rattle.rules.specs.declared.EndLine.{EndLine}
+use Rattle.rules.specs.declared.Reading.{Reading}
+use Rattle.read_flow.specs.declared.Flow.{Flow}
 use Rattle.read_listing.specs.declared.says.Said.{Said}
 
 -- what was said, done to a listing
@@ -76,6 +78,7 @@ placedSays Mo k h rows dichotomies l = headSays (headLine true l)
 placedSays Pt k h rows dichotomies l = rowSays (rowLine h rows k l)
 placedSays Di k h rows dichotomies l = dichotomySays (dichotomyLine h dichotomies l)
 placedSays Ou k h rows dichotomies l = outputsSays (outputsLine h l)
+placedSays Ft k h rows dichotomies l = Said.Refused BadLine
 placedSays En k h rows dichotomies l = endSays (endLine l)
 placedSays Unknown k h rows dichotomies l = Said.Refused BadLine
 
@@ -87,3 +90,22 @@ lineSays k h rows dichotomies given l = cond (placed (markIs (markOf l)) k h giv
 unfoldable pub outputsVerdict : ℕ → Head → ℕ → Verdict
 unfolding complete
 outputsVerdict k h given = cond (complete h given) Verdict.Accepted (Verdict.Refused NoOutputs k)
+
+-- ---- a flow table
+
+-- the listing of a flow table: its head, and the dichotomies that were read
+unfoldable pub flowListing : Head → Flow → Listing
+unfolding blank
+flowListing h f = record {
+  head = h;
+  rows = blank .rows;
+  table = blank .table;
+  dichotomies = f .dichotomies;
+  asked = f .asked;
+  said = blank .said;
+  given = blank .given;
+}
+
+unfoldable pub readingOf : Head → Flow → Reading
+unfolding refused flowListing
+readingOf h f = elim (f .verdict) [ Verdict.Accepted ↦ accepted (flowListing h f) | Verdict.Refused r k ↦ refused r k ]

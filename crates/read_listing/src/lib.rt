@@ -4,9 +4,12 @@ mod says;
 ghost use mathlib.Core.Path.{_≡_};
 ghost use Prim.Native.Nat.{_<_};
 ghost use Rattle.rules.specs.Text.{linesOf};
-ghost use Rattle.rules.specs.Listing.{blank, refused, complete, ended, unended, readLines, checked, reading, orElse};
-ghost use Rattle.read_listing.specs.Says.{outputsVerdict};
+ghost use Rattle.rules.specs.FlowLines.{flowHead};
+ghost use Rattle.rules.specs.Listing.{blank, refused, complete, ended, unended, readLines, readAll, checked, reading, orElse};
+ghost use Rattle.read_listing.specs.Says.{outputsVerdict, readingOf};
+use read_flow::Flow;
 use rules::Head;
+use rules::HeadLine;
 use rules::Listing;
 use rules::Pattern;
 use rules::Reading;
@@ -171,6 +174,57 @@ fn read_lines(s: &[u8]) -> Reading
     break_off(k, t.head, t.given, &s[at..])
 }
 
+// The head of a flow table, if lines l and m begin one.
+fn flow_head(l: &[u8], m: &[u8]) -> HeadLine
+    ensures { λ r. ⌜ r ≡ flowHead (now (l .entry)) (now (m .entry)) ⌝ }
+{
+    if !read_marks::leads(l, b"MC") {
+        return HeadLine::Refused(Refusal::Place);
+    }
+    if !read_marks::leads(m, b"FT") {
+        return HeadLine::Refused(Refusal::Place);
+    }
+    read_head::head_line(false, l)
+}
+
+// What was read of a flow table, under its head.
+fn flow_reading(h: Head, f: Flow) -> Reading
+    ensures { λ r. ⌜ r ≡ readingOf h f ⌝ }
+{
+    let verdict = f.verdict;
+    match verdict {
+        Verdict::Refused(r, line) => refuse(r, line),
+        Verdict::Accepted => {
+            let mut t = blank_listing();
+            let asked = f.asked;
+            t.head = h;
+            t.dichotomies = f.dichotomies;
+            t.asked = asked;
+            Reading {
+                verdict: Verdict::Accepted,
+                listing: t,
+            }
+        }
+    }
+}
+
+// All lines: those of a flow table, or of an ordinary listing.
+fn read_all(s: &[u8]) -> Reading
+    ensures { λ r. ⌜ r ≡ checked (readAll (linesOf (now (s .entry)))) ⌝ }
+{
+    let end = read_pieces::cut(s, 0, b'\n');
+    if s.len() <= end {
+        return read_lines(s);
+    }
+    let at = end + 1;
+    let next = read_pieces::cut(s, at, b'\n');
+    let head = flow_head(&s[0..end], &s[at..next]);
+    match head {
+        HeadLine::Read(h) => flow_reading(h, read_flow::read_flow(h, &s[at..])),
+        HeadLine::Refused(_) => read_lines(s),
+    }
+}
+
 // Any bytes at all: the listing, or the refusal and its line.
 pub fn read_listing(bytes: &[u8]) -> Reading
     ensures { λ r. ⌜ r ≡ reading (now (bytes .entry)) ⌝ }
@@ -178,5 +232,5 @@ pub fn read_listing(bytes: &[u8]) -> Reading
     if rules::MOST_BYTES < bytes.len() {
         return refuse(Refusal::Limit, 0);
     }
-    read_lines(bytes)
+    read_all(bytes)
 }

@@ -134,6 +134,7 @@ fn placed_said(mark: Mark, k: usize, h: Head, rows: usize, dichotomies: usize, l
         Mark::Pt => row_said(h, rows, k, l),
         Mark::Di => dichotomy_said(h, dichotomies, l),
         Mark::Ou => outputs_said(h, l),
+        Mark::Ft => Said::Refused(Refusal::BadLine),
         Mark::En => end_said(l),
         Mark::Unknown => Said::Refused(Refusal::BadLine),
     }
@@ -162,6 +163,7 @@ pub fn in_place(mark: Mark, k: usize, h: Head, given: u64, l: &[u8]) -> bool
         Mark::Pt => k != 1,
         Mark::Di => k != 1,
         Mark::Ou => outputs_in_place(k, h, given, l),
+        Mark::Ft => false,
         Mark::En => k != 1,
         Mark::Unknown => k != 1,
     }

@@ -11,11 +11,11 @@ refuse-requires c κs = search needs
 returns : tie.Need-returns
 returns c = c .refuse .ensures ∙ sym (too-long _ (c .before .if1 .taken))
 
-read-lines-requires : tie.Need-read-lines-requires
-read-lines-requires c κs = search needs
+read-all-requires : tie.Need-read-all-requires
+read-all-requires c κs = search needs
 
 returns-2 : tie.Need-returns-2
-returns-2 c = c .read-lines .ensures ∙ sym (short _ (c .before .if1 .left))
+returns-2 c = c .read-all .ensures ∙ sym (short _ (c .before .if1 .left))
 
 pub read-listing-spec : {M : Type 1} → statement M
-read-listing-spec = tie.close (tie.spec refuse-requires returns read-lines-requires returns-2)
+read-listing-spec = tie.close (tie.spec refuse-requires returns read-all-requires returns-2)

@@ -29,6 +29,9 @@ enum-told-6 c = search needs
 enum-told-7 : tie.Need-enum-told-7
 enum-told-7 c = search needs
 
+enum-told-8 : tie.Need-enum-told-8
+enum-told-8 c = search needs
+
 returns : tie.Need-returns
 unfolding placed
 returns c = rw (c .enum-told .given .1)
@@ -57,6 +60,10 @@ returns-7 : tie.Need-returns-7
 unfolding placed
 returns-7 c = rw (c .enum-told7 .given .1)
 
+returns-8 : tie.Need-returns-8
+unfolding placed
+returns-8 c = rw (c .enum-told8 .given .1)
+
 pub in-place-spec : {M : Type 1} → statement M
 in-place-spec =
     tie.close
@@ -69,10 +76,12 @@ in-place-spec =
     outputs-in-place-requires
     enum-told-6
     enum-told-7
+    enum-told-8
     returns
     returns-2
     returns-3
     returns-4
     returns-5
     returns-6
-    returns-7)
+    returns-7
+    returns-8)

@@ -38,11 +38,14 @@ outputs-said-requires c κs = search needs
 enum-told-6 : tie.Need-enum-told-6
 enum-told-6 c = search needs
 
+enum-told-7 : tie.Need-enum-told-7
+enum-told-7 c = search needs
+
 end-said-requires : tie.Need-end-said-requires
 end-said-requires c κs = search needs
 
-enum-told-7 : tie.Need-enum-told-7
-enum-told-7 c = search needs
+enum-told-8 : tie.Need-enum-told-8
+enum-told-8 c = search needs
 
 returns : tie.Need-returns
 unfolding placedSays
@@ -66,11 +69,15 @@ returns-5 c = c .outputs-said .ensures ∙ rw (c .before .enum-told5 .given .1)
 
 returns-6 : tie.Need-returns-6
 unfolding placedSays
-returns-6 c = c .end-said .ensures ∙ rw (c .before .enum-told6 .given .1)
+returns-6 c = rw (c .enum-told6 .given .1)
 
 returns-7 : tie.Need-returns-7
 unfolding placedSays
-returns-7 c = rw (c .enum-told7 .given .1)
+returns-7 c = c .end-said .ensures ∙ rw (c .before .enum-told7 .given .1)
+
+returns-8 : tie.Need-returns-8
+unfolding placedSays
+returns-8 c = rw (c .enum-told8 .given .1)
 
 pub placed-said-spec : {M : Type 1} → statement M
 placed-said-spec =
@@ -87,12 +94,14 @@ placed-said-spec =
     enum-told-5
     outputs-said-requires
     enum-told-6
-    end-said-requires
     enum-told-7
+    end-said-requires
+    enum-told-8
     returns
     returns-2
     returns-3
     returns-4
     returns-5
     returns-6
-    returns-7)
+    returns-7
+    returns-8)
