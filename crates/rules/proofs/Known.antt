@@ -142,7 +142,8 @@ cases =
     ∷ gives table-iii ("+---" ∷ "+++-" ∷ "+-+-" ∷ "+-.-" ∷ "+.-." ∷ ".+-+" ∷ [])
     ∷ reports table-iii "CT 4 12 0 6 104\nSC 0 0000\nSC 1 1110\nSC 2 0110\nSC 3 1011\nBY 0 0\nBY 1 1\nBY 2 0\nBY 3 0\nBY 4 1\nBY 5 0\nBY 6 2\nBY 7 3\nBY 8 0\nBY 9 0\nBY 10 1\nBY 11 0\nEN\n"
     ∷ covers table-iii ".i 6\n.o 5\n.type fd\n.p 0\n.e\n"
-    ∷ reports "MC 2 1 1 0\nFT 1 -\nFT - 0\nEN\n" "NO 13 2\n"
+    ∷ gives "MC 3 1 1 0\nFT 0 -\nFT - 1\nFT 2 1\nEN\n" ("+.-" ∷ [])
+    ∷ reports "MC 3 1 1 0\nFT 0 -\nFT - 2\nFT 1 -\nEN\n" "NO 13 3\n"
     ∷ []
 
 -- ---- what a case states
