@@ -4,16 +4,21 @@ use mathlib.Core.List.{List, map}
 use Prim.Native.Nat.{ℕ, zero, suc, _+_, _*_}
 use lib.ListN.{getD, take, drop, set, replicate}
 use Rattle.sets.specs.Sets.{every, statesFrom}
+use Rattle.rules.specs.Limits.{most-states}
 use Rattle.rules.specs.Text.{fieldAt}
 use Rattle.rules.specs.FlowTable.{noState, isStable}
 use Rattle.rules.specs.FlowLines.{entryOf, isEntry, entryAt}
 
+-- 64 places for each of 16 columns
+abbrev pub most-places : ℕ
+most-places = 1024
+
 abbrev pub blankTable : List ℕ
-blankTable = replicate 1024 noState
+blankTable = replicate most-places noState
 
 -- the columns of a table of n states
 abbrev pub columnIn : List ℕ → ℕ → ℕ → List ℕ
-columnIn table n c = take n (drop (c * 64) table)
+columnIn table n c = take n (drop (c * most-states) table)
 
 unfoldable pub columnsFrom : List ℕ → ℕ → ℕ → ℕ → List (List ℕ)
 columnsFrom table n c k = map (columnIn table n) (statesFrom c k)
@@ -24,7 +29,7 @@ columnsIn table n k = columnsFrom table n 0 k
 -- the entries of line l, that of state s, in k columns from c on
 unfoldable pub storeFrom : ℕ → List ℕ → ℕ → ℕ → ℕ → List ℕ → List ℕ
 storeFrom n l s c zero table = table
-storeFrom n l s c (suc k) table = storeFrom n l s (c + 1) k (set table (c * 64 + s) (entryAt n c l))
+storeFrom n l s c (suc k) table = storeFrom n l s (c + 1) k (set table (c * most-states + s) (entryAt n c l))
 
 -- each of so many columns has an entry
 unfoldable pub allEntries : ℕ → ℕ → List ℕ → Bool

@@ -5,10 +5,11 @@ ghost use mathlib.Core.List.{map};
 ghost use Prim.Native.Nat.{_<_, _≤_};
 ghost use lib.ListN.{length, take};
 ghost use lib.Dec.{eqb};
+ghost use Rattle.rules.specs.Limits.{most-states, most-columns};
 ghost use Rattle.sets.specs.Sets.{has};
 ghost use Rattle.rules.specs.Text.{digit, setOf};
 ghost use Rattle.rules.specs.FlowTable.{isState, setsOf, setPairs, flowAsks};
-ghost use Rattle.read_flow.specs.Table.{columnsIn};
+ghost use Rattle.read_flow.specs.Table.{most-places, columnsIn};
 ghost use Rattle.read_flow.specs.Gathering.{nothing, between, withAsked, withAll, noSets, withEntry};
 use rules::Requirement;
 
@@ -98,7 +99,7 @@ fn digit_of(x: u8, d: u8) -> u64
 
 // The states that go to d.
 fn set_of(column: &[u8], d: u8) -> u64
-    requires { ⌜ length (now column) ≤ 64 ⌝ }
+    requires { ⌜ length (now column) ≤ most-states ⌝ }
     ensures { λ r. ⌜ r ≡ setOf d (now (column .entry)) ⌝ }
 {
     let mut m: u64 = 0;
@@ -133,7 +134,7 @@ fn is_new(met: u64, d: u8) -> bool
 
 // The sets met, with that of d, if it is a destination that was not met.
 fn with_entry(got: Sets, column: &[u8], d: u8) -> Sets
-    requires { ⌜ (length (now column) ≤ 64) × (got .count < 64) ⌝ }
+    requires { ⌜ (length (now column) ≤ most-states) × (got .count < most-states) ⌝ }
     ensures { λ r. ⌜ r ≡ withEntry (now (column .entry)) d got ⌝ }
 {
     let n = got.count;
@@ -151,8 +152,8 @@ fn with_entry(got: Sets, column: &[u8], d: u8) -> Sets
 
 // The sets of a column, by their lowest members.
 fn sets_of(column: &[u8]) -> Sets
-    requires { ⌜ length (now column) ≤ 64 ⌝ }
-    ensures { λ r. ⌜ (r .count ≤ 64) × (length (r .sets) ≡ 64) × (take (r .count) (r .sets) ≡ setsOf (now (column .entry))) ⌝ }
+    requires { ⌜ length (now column) ≤ most-states ⌝ }
+    ensures { λ r. ⌜ (r .count ≤ most-states) × (length (r .sets) ≡ most-states) × (take (r .count) (r .sets) ≡ setsOf (now (column .entry))) ⌝ }
 {
     let mut got = no_sets();
     let mut s: usize = 0;
@@ -165,7 +166,7 @@ fn sets_of(column: &[u8]) -> Sets
 
 // The dichotomies of one column.
 fn with_column(g: Gathered, column: &[u8]) -> Gathered
-    requires { ⌜ length (now column) ≤ 64 ⌝ }
+    requires { ⌜ length (now column) ≤ most-states ⌝ }
     ensures { λ r. ⌜ r ≡ withAll (setPairs (setsOf (now (column .entry)))) g ⌝ }
 {
     let got = sets_of(column);
@@ -176,7 +177,7 @@ fn with_column(g: Gathered, column: &[u8]) -> Gathered
 
 // Those of all columns of a table of n states.
 pub fn gather(table: &[u8], n: usize, columns: usize) -> Gathered
-    requires { ⌜ (n ≤ 64) × (columns ≤ 16) × (length (now table) ≡ 1024) ⌝ }
+    requires { ⌜ (n ≤ most-states) × (columns ≤ most-columns) × (length (now table) ≡ most-places) ⌝ }
     ensures { λ r. ⌜ r ≡ withAll (flowAsks (columnsIn (now (table .entry)) n columns)) nothing ⌝ }
 {
     let mut more = none_asked();

@@ -7,10 +7,11 @@ mod stable;
 ghost use mathlib.Core.Path.{_≡_};
 ghost use Prim.Native.Nat.{_<_, _≤_};
 ghost use lib.ListN.{length};
+ghost use Rattle.rules.specs.Limits.{most-states, most-columns};
 ghost use Rattle.rules.specs.Text.{linesOf};
 ghost use Rattle.rules.specs.FlowLines.{columnCount};
 ghost use Rattle.rules.specs.Listing.{refused, flowRead, flowUnended, flowLines};
-ghost use Rattle.read_flow.specs.Table.{columnsIn};
+ghost use Rattle.read_flow.specs.Table.{most-places, columnsIn};
 ghost use Rattle.read_flow.specs.Flows.{flowOf, flowGiven, flowEnd, flowTable};
 use asks::Gathered;
 use rules::Head;
@@ -55,7 +56,7 @@ fn give(g: Gathered) -> Flow
 
 // A table that is filled: a destination that is not stable is 13, then too many dichotomies 2.
 fn judge(h: Head, columns: usize, table: &[u8]) -> Flow
-    requires { ⌜ (h .states ≤ 64) × (columns ≤ 16) × (length (now table) ≡ 1024) ⌝ }
+    requires { ⌜ (h .states ≤ most-states) × (columns ≤ most-columns) × (length (now table) ≡ most-places) ⌝ }
     ensures { λ r. ⌜ r ≡ flowOf (flowRead h (columnsIn (now (table .entry)) (h .states) columns)) ⌝ }
 {
     let verdict = stable::stability_of(table, h.states, columns);
@@ -67,7 +68,7 @@ fn judge(h: Head, columns: usize, table: &[u8]) -> Flow
 
 // After `EN`, which stood on line k: bytes behind it are 3, on the line after its own.
 fn finish(k: usize, h: Head, columns: usize, table: &[u8], rest: &[u8]) -> Flow
-    requires { ⌜ (k < 18446744073709551615) × (h .states ≤ 64) × (columns ≤ 16) × (length (now table) ≡ 1024) ⌝ }
+    requires { ⌜ (k < 18446744073709551615) × (h .states ≤ most-states) × (columns ≤ most-columns) × (length (now table) ≡ most-places) ⌝ }
     ensures { λ r. ⌜ r ≡ flowOf (flowEnd k h (columnsIn (now (table .entry)) (h .states) columns) (linesOf (now (rest .entry)))) ⌝ }
 {
     if rest.len() != 0 {
@@ -78,7 +79,7 @@ fn finish(k: usize, h: Head, columns: usize, table: &[u8], rest: &[u8]) -> Flow
 
 // What stands behind the last LF, as line k.
 fn break_off(k: usize, n: usize, l: &[u8]) -> Flow
-    requires { ⌜ n ≤ 64 ⌝ }
+    requires { ⌜ n ≤ most-states ⌝ }
     ensures { λ r. ⌜ r ≡ flowOf (flowUnended k n (now (l .entry))) ⌝ }
 {
     if l.len() == 0 {
@@ -100,7 +101,7 @@ fn columns_of(s: &[u8]) -> usize
 
 // The lines from the first behind the head on, until one of them decides.
 fn read_lines(h: Head, s: &[u8]) -> Flow
-    requires { ⌜ (1 ≤ h .states) × (h .states ≤ 64) ⌝ }
+    requires { ⌜ (1 ≤ h .states) × (h .states ≤ most-states) ⌝ }
     ensures { λ r. ⌜ r ≡ flowOf (flowLines 2 h (linesOf (now (s .entry))) (linesOf (now (s .entry)))) ⌝ }
 {
     let n = h.states;

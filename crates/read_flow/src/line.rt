@@ -1,6 +1,7 @@
 // One line of a flow table: its entries, whether they are in order, and the table with them. Column c of the table has the 64 places from 64 × c on.
 ghost use mathlib.Core.Path.{_≡_};
 ghost use Prim.Native.Nat.{_+_, _<_, _≤_};
+ghost use Rattle.rules.specs.Limits.{most-states, most-columns};
 ghost use Rattle.rules.specs.Text.{bytes, same, fieldAt};
 ghost use Rattle.rules.specs.FlowLines.{entryOf, isEntry, entryAt, flowLine};
 ghost use Rattle.read_flow.specs.Table.{allEntries, blankTable, storeFrom};
@@ -39,7 +40,7 @@ fn entry_of(n: usize, f: &[u8]) -> Numeral
 
 // Whether column c of a line has an entry.
 fn has_entry(n: usize, l: &[u8], c: usize) -> bool
-    requires { ⌜ c < 16 ⌝ }
+    requires { ⌜ c < most-columns ⌝ }
     ensures { λ r. ⌜ r ≡ isEntry (entryOf n (fieldAt (now (l .entry)) (c + 1))) ⌝ }
 {
     let got = entry_of(n, read_pieces::field(l, c + 1));
@@ -51,7 +52,7 @@ fn has_entry(n: usize, l: &[u8], c: usize) -> bool
 
 // Whether each column of a line has one.
 fn all_entries(n: usize, columns: usize, l: &[u8]) -> bool
-    requires { ⌜ columns ≤ 16 ⌝ }
+    requires { ⌜ columns ≤ most-columns ⌝ }
     ensures { λ r. ⌜ r ≡ allEntries n columns (now (l .entry)) ⌝ }
 {
     let mut c: usize = 0;
@@ -85,7 +86,7 @@ pub fn flow_line(n: usize, columns: usize, l: &[u8]) -> FlowLine
 
 // The entry of a line in column c; a dash where it has none.
 fn value_at(n: usize, l: &[u8], c: usize) -> u8
-    requires { ⌜ (n ≤ 64) × (c < 16) ⌝ }
+    requires { ⌜ (n ≤ most-states) × (c < most-columns) ⌝ }
     ensures { λ r. ⌜ r ≡ entryAt n c (now (l .entry)) ⌝ }
 {
     let got = entry_of(n, read_pieces::field(l, c + 1));
@@ -105,7 +106,7 @@ pub fn blank_table() -> [u8; PLACES]
 
 // The table with the entries of a line, that of state s.
 pub fn with_line(table: [u8; PLACES], s: usize, n: usize, columns: usize, l: &[u8]) -> [u8; PLACES]
-    requires { ⌜ (s < 64) × (n ≤ 64) × (columns ≤ 16) ⌝ }
+    requires { ⌜ (s < most-states) × (n ≤ most-states) × (columns ≤ most-columns) ⌝ }
     ensures { λ r. ⌜ r ≡ storeFrom n (now (l .entry)) s 0 columns table ⌝ }
 {
     let mut filled = table;

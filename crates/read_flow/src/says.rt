@@ -1,6 +1,7 @@
 // What one line does to a flow table: it gives a state's entries, ends the table, or is refused.
 ghost use mathlib.Core.Path.{_≡_};
 ghost use Prim.Native.Nat.{_≤_};
+ghost use Rattle.rules.specs.Limits.{most-states};
 ghost use Rattle.rules.specs.FlowLines.{flowPlaced, flowLine, flowDoes};
 ghost use Rattle.rules.specs.Lines.{endLine};
 ghost use Rattle.rules.specs.Listing.{flowStep};
@@ -73,7 +74,7 @@ fn placed_said(mark: Mark, n: usize, columns: usize, l: &[u8]) -> Said
 
 // Whether a line with this mark is in its place as line k, of n states: a line for each, and then `EN`.
 pub fn in_place(mark: Mark, k: usize, n: usize) -> bool
-    requires { ⌜ n ≤ 64 ⌝ }
+    requires { ⌜ n ≤ most-states ⌝ }
     ensures { λ r. ⌜ r ≡ flowPlaced mark k n ⌝ }
 {
     match mark {
@@ -90,7 +91,7 @@ pub fn in_place(mark: Mark, k: usize, n: usize) -> bool
 
 // Line k of a flow table of n states and so many columns.
 pub fn line_said(k: usize, n: usize, columns: usize, l: &[u8]) -> Said
-    requires { ⌜ n ≤ 64 ⌝ }
+    requires { ⌜ n ≤ most-states ⌝ }
     ensures { λ r. ⌜ r ≡ saidOf (flowStep k n columns (now (l .entry))) ⌝ }
 {
     let mark = read_marks::mark_of(l);

@@ -2,9 +2,10 @@
 ghost use mathlib.Core.Path.{_≡_};
 ghost use Prim.Native.Nat.{_<_, _≤_};
 ghost use lib.ListN.{length};
+ghost use Rattle.rules.specs.Limits.{most-states, most-columns};
 ghost use Rattle.sets.specs.Sets.{statesFrom};
 ghost use Rattle.rules.specs.FlowTable.{isStable, goesWell, stability};
-ghost use Rattle.read_flow.specs.Table.{columnsIn, goesWellIn};
+ghost use Rattle.read_flow.specs.Table.{most-places, columnsIn, goesWellIn};
 use rules::Refusal;
 use rules::Verdict;
 
@@ -32,7 +33,7 @@ fn goes_well_in(column: &[u8], s: usize) -> bool
 
 // The same in each column of a table of n states.
 fn goes_well(table: &[u8], n: usize, columns: usize, s: usize) -> bool
-    requires { ⌜ (n ≤ 64) × (columns ≤ 16) × (length (now table) ≡ 1024) × (s < n) ⌝ }
+    requires { ⌜ (n ≤ most-states) × (columns ≤ most-columns) × (length (now table) ≡ most-places) × (s < n) ⌝ }
     ensures { λ r. ⌜ r ≡ goesWell (columnsIn (now (table .entry)) n columns) s ⌝ }
 {
     let mut c: usize = 0;
@@ -49,7 +50,7 @@ fn goes_well(table: &[u8], n: usize, columns: usize, s: usize) -> bool
 
 // The first state that does not: 13 at its line.
 pub fn stability_of(table: &[u8], n: usize, columns: usize) -> Verdict
-    requires { ⌜ (n ≤ 64) × (columns ≤ 16) × (length (now table) ≡ 1024) ⌝ }
+    requires { ⌜ (n ≤ most-states) × (columns ≤ most-columns) × (length (now table) ≡ most-places) ⌝ }
     ensures { λ r. ⌜ r ≡ stability (columnsIn (now (table .entry)) n columns) (statesFrom 0 n) ⌝ }
 {
     let mut s: usize = 0;
