@@ -1,4 +1,5 @@
-/* Prints the second encoder's report, cover or widths of the listing on standard input, as the programs print theirs. */
+/* Prints the second encoder's report, cover or widths of the listing on standard input, or its report or cover in the fewest bits, as the
+   programs print theirs. */
 #include "second.h"
 
 static uint8_t listing[SECOND_BYTES + 1];
@@ -25,8 +26,12 @@ int main(int words, char **word)
         run = second_cover;
     if (words == 2 && strcmp(word[1], "widths") == 0)
         run = second_widths;
+    if (words == 2 && strcmp(word[1], "least") == 0)
+        run = second_least;
+    if (words == 2 && strcmp(word[1], "least-cover") == 0)
+        run = second_least_cover;
     if (run == NULL) {
-        printf("usage: say report|cover|widths <LISTING\n");
+        printf("usage: say report|cover|widths|least|least-cover <LISTING\n");
         return 2;
     }
     size_t length = 0;

@@ -20,6 +20,11 @@
 #define SECOND_REQUIREMENTS \
     (SECOND_STATES * (SECOND_STATES - 1) / 2 + SECOND_ROWS * (SECOND_STATES - 2) + SECOND_DICHOTOMIES)
 
+/* 02, request 11: "For up to 6 states and at most 32 requirements, ... up to 5 bits." */
+#define SECOND_LEAST_STATES 6
+#define SECOND_LEAST_REQUIREMENTS 32
+#define SECOND_LEAST_BITS 5
+
 /* 01, "Looks": the trial record takes a list of at most 256. */
 #define SECOND_TRIAL_REQUIREMENTS 256
 
@@ -30,8 +35,8 @@
    178, and the other lines together far fewer than 256. */
 #define SECOND_TEXT (SECOND_REQUIREMENTS * 12 + SECOND_STATES * 71 + SECOND_COVER_ROWS * 178 + 256)
 
-/* 01, "Refusal numbers", 13 of 02's request 05 and 17 of its request 13. SECOND_FINE stands for no refusal; 8 is unused (02,
-   request 06). */
+/* 01, "Refusal numbers", 13 of 02's request 05, 16 of its request 11 and 17 of its request 13. SECOND_FINE stands for no refusal;
+   8 is unused (02, request 06). */
 enum {
     SECOND_FINE = 0,
     SECOND_BAD_LINE = 1,
@@ -45,6 +50,7 @@ enum {
     SECOND_NO_ROOM = 10,
     SECOND_BAD_CALL = 11,
     SECOND_UNSTABLE = 13, /* a destination of a flow table that is not stable in its column */
+    SECOND_NO_CODE = 16,  /* no code of 5 bits meets everything */
     SECOND_UNTOLD = 17    /* a state of a Moore machine without an `OU` line */
 };
 
@@ -113,6 +119,10 @@ int64_t second_widths(const uint8_t *listing, size_t listing_length, uint8_t *ou
 int64_t second_report_part(const uint8_t *listing, size_t listing_length, size_t from, uint8_t *out, size_t out_length);
 int64_t second_cover_part(const uint8_t *listing, size_t listing_length, size_t from, uint8_t *out, size_t out_length);
 
+/* The report and the cover of a small machine in a code of the fewest bits (02, request 11). */
+int64_t second_least(const uint8_t *listing, size_t listing_length, uint8_t *out, size_t out_length);
+int64_t second_least_cover(const uint8_t *listing, size_t listing_length, uint8_t *out, size_t out_length);
+
 /* The steps, for the tests. */
 
 /* second_read.c */
@@ -137,6 +147,12 @@ uint64_t second_build_bit(const struct second_requirement *live, unsigned number
                           uint64_t *passes, uint64_t *looks);
 struct second_refusal second_build_code(const struct second_requirements *requirements, unsigned states,
                                         unsigned width, struct second_code *code);
+
+/* second_least.c */
+uint64_t second_column(unsigned number, unsigned states);
+bool second_find_least(const struct second_requirements *requirements, unsigned states, struct second_code *code);
+struct second_refusal second_least_code(const uint8_t *listing, size_t length, struct second_machine *machine,
+                                        struct second_requirements *requirements, struct second_code *code);
 
 /* second.c */
 char second_face_place(uint64_t group, uint64_t bit);

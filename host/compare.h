@@ -1,0 +1,40 @@
+/* One call of the library against the second encoder's answer: the answers, every byte of the lent buffer and around it, and the
+   text that was given. */
+#ifndef COMPARE_H
+#define COMPARE_H
+
+#include "chance.h"
+#include "known.h"
+#include "second.h"
+
+/* The refusal numbers that are counted apart, 0 being an answer: up to this one. */
+#define COMPARE_NUMBERS 18
+
+struct compare_tally {
+    const char *name;
+    uint64_t seen[COMPARE_NUMBERS + 1]; /* by refusal number, any other last */
+    uint64_t second_time;
+    uint64_t library_time;
+};
+
+/* What is given: its bytes, which nobody may change, and what to call it when a difference is printed. */
+struct compare_given {
+    uint8_t *bytes;
+    size_t length;
+    const char *kind;
+};
+
+/* The second encoder's whole answer of the last call of compare_entry. */
+extern uint8_t compare_ample[SECOND_TEXT];
+
+/* This process's own time in nanoseconds. */
+uint64_t compare_now(void);
+
+/* Runs both with a buffer of a length drawn by chance, and answers whether they agree in everything; prints the difference if not.
+   *answered is what the second encoder answers with room enough. */
+bool compare_entry(struct chance *chance, struct compare_tally *tally, entry *library, entry *second,
+                   const struct compare_given *given, int64_t *answered);
+
+void compare_print(const struct compare_tally *tally);
+
+#endif
