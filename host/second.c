@@ -336,14 +336,14 @@ int64_t second_widths(const uint8_t *listing, size_t listing_length, uint8_t *ou
     return hand_over(&text, out, out_length);
 }
 
-/* 02, request 11: the code of the fewest bits, in the same report, "passes and looks" being 0. */
-int64_t second_least(const uint8_t *listing, size_t listing_length, uint8_t *out, size_t out_length)
+/* The report and the cover in a code that is found in another way, one that leaves no pair or group unmet. */
+int64_t second_report_by(second_finder *find, const uint8_t *listing, size_t listing_length, uint8_t *out, size_t out_length)
 {
     static struct second_machine machine;
     static struct second_requirements requirements;
     static struct text text;
     struct second_code code;
-    struct second_refusal refusal = second_least_code(listing, listing_length, &machine, &requirements, &code);
+    struct second_refusal refusal = find(listing, listing_length, &machine, &requirements, &code);
     if (refusal.number != SECOND_FINE)
         return refused(refusal);
     text.length = 0;
@@ -351,14 +351,13 @@ int64_t second_least(const uint8_t *listing, size_t listing_length, uint8_t *out
     return hand_over(&text, out, out_length);
 }
 
-/* And in the same cover, which is never refused 9: the code meets everything. */
-int64_t second_least_cover(const uint8_t *listing, size_t listing_length, uint8_t *out, size_t out_length)
+int64_t second_cover_by(second_finder *find, const uint8_t *listing, size_t listing_length, uint8_t *out, size_t out_length)
 {
     static struct second_machine machine;
     static struct second_requirements requirements;
     static struct text text;
     struct second_code code;
-    struct second_refusal refusal = second_least_code(listing, listing_length, &machine, &requirements, &code);
+    struct second_refusal refusal = find(listing, listing_length, &machine, &requirements, &code);
     if (refusal.number != SECOND_FINE)
         return refused(refusal);
     text.length = 0;

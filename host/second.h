@@ -149,12 +149,16 @@ struct second_refusal second_build_code(const struct second_requirements *requir
                                         unsigned width, struct second_code *code);
 
 /* second_least.c */
-uint64_t second_column(unsigned number, unsigned states);
-bool second_find_least(const struct second_requirements *requirements, unsigned states, struct second_code *code);
 struct second_refusal second_least_code(const uint8_t *listing, size_t length, struct second_machine *machine,
                                         struct second_requirements *requirements, struct second_code *code);
 
 /* second.c */
+
+/* From a listing to its requirements and a code, or to the refusal. */
+typedef struct second_refusal second_finder(const uint8_t *listing, size_t length, struct second_machine *machine,
+                                            struct second_requirements *requirements, struct second_code *code);
+int64_t second_report_by(second_finder *find, const uint8_t *listing, size_t listing_length, uint8_t *out, size_t out_length);
+int64_t second_cover_by(second_finder *find, const uint8_t *listing, size_t listing_length, uint8_t *out, size_t out_length);
 char second_face_place(uint64_t group, uint64_t bit);
 int64_t second_part(const uint8_t *text, size_t text_length, size_t from, uint8_t *out, size_t out_length);
 

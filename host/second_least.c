@@ -4,7 +4,7 @@
 #define COLUMNS (1u << (SECOND_LEAST_STATES - 1))
 
 /* "columns, taken as numbers with state 1 highest", and state 0 at 0: the bit that has this number. */
-uint64_t second_column(unsigned number, unsigned states)
+static uint64_t column_of(unsigned number, unsigned states)
 {
     uint64_t bit = 0;
     for (unsigned state = 1; state < states; state++)
@@ -14,69 +14,72 @@ uint64_t second_column(unsigned number, unsigned states)
 }
 
 /* What is looked up rather than judged again for every code: the columns there are, and which requirements each of them meets, requirement
-   r as the bit 2^r. */
+   r as the bit 2^r; and the other way round, which columns meet a requirement. */
 struct columns {
+    unsigned digits; /* a column is a number of so many binary digits */
     unsigned number;
     uint64_t bit[COLUMNS];
     uint64_t meets[COLUMNS];
+    uint64_t met_by[SECOND_LEAST_REQUIREMENTS];
     uint64_t all; /* the requirements that a code is to meet */
 };
 
 static void judge_columns(const struct second_requirements *requirements, unsigned states, struct columns *columns)
 {
-    columns->number = 1u << (states - 1);
-    columns->all = 0;
-    for (unsigned r = 0; r < requirements->number; r++)
+    memset(columns, 0, sizeof *columns);
+    columns->digits = states - 1;
+    columns->number = 1u << columns->digits;
+    for (unsigned column = 0; column < columns->number; column++)
+        columns->bit[column] = column_of(column, states);
+    for (unsigned r = 0; r < requirements->number; r++) {
         columns->all |= (uint64_t)1 << r;
-    for (unsigned column = 0; column < columns->number; column++) {
-        columns->bit[column] = second_column(column, states);
-        columns->meets[column] = 0;
-        for (unsigned r = 0; r < requirements->number; r++)
-            if (second_bit_meets(requirements->list[r], columns->bit[column]))
+        for (unsigned column = 0; column < columns->number; column++) {
+            if (second_bit_meets(requirements->list[r], columns->bit[column])) {
                 columns->meets[column] |= (uint64_t)1 << r;
+                columns->met_by[r] |= (uint64_t)1 << column;
+            }
+        }
     }
 }
 
-/* The columns of a code are the digits of a number, the first one its highest digit, so that codes of one width come in the order of
-   their numbers: the digit of this place, from the right. */
-static unsigned digit_of(const struct columns *columns, uint64_t code, unsigned place)
+/* A code is a number too: its columns' digits one behind the other, the first column's highest, so that codes of one width come in the order
+   of their numbers. The column of this place, from the right. */
+static unsigned column_at(const struct columns *columns, uint64_t code, unsigned place)
 {
-    for (; place > 0; place--)
-        code /= columns->number;
-    return (unsigned)(code % columns->number);
+    return (unsigned)(code >> place * columns->digits & (columns->number - 1));
 }
 
-static uint64_t codes_of(const struct columns *columns, unsigned width)
+static uint64_t left_by(const struct columns *columns, uint64_t code, unsigned width)
 {
-    uint64_t codes = 1;
-    for (; width > 0; width--)
-        codes *= columns->number;
-    return codes;
+    uint64_t left = columns->all;
+    for (unsigned place = 0; place < width; place++)
+        left &= ~columns->meets[column_at(columns, code, place)];
+    return left;
 }
 
-/* The requirements that a code of this width meets. */
-static uint64_t met_by_code(const struct columns *columns, uint64_t code, unsigned width)
+/* The first column that meets all that is left, or as many as there are. Those that do not meet the last requirement that is left are passed
+   over: it is a dichotomy most often, which few do. */
+static unsigned last_column(const struct columns *columns, uint64_t left)
 {
-    uint64_t met = 0;
-    for (; width > 0; width--) {
-        met |= columns->meets[code % columns->number];
-        code /= columns->number;
+    if (left == 0)
+        return 0;
+    for (uint64_t able = columns->met_by[63 - __builtin_clzll(left)]; able != 0; able &= able - 1) {
+        unsigned column = (unsigned)__builtin_ctzll(able);
+        if ((left & ~columns->meets[column]) == 0)
+            return column;
     }
-    return met;
+    return columns->number;
 }
 
-/* The first code of this width, one bit or more, that meets all. What the columns before the last one meet is worked out once for all
-   last columns. */
+/* The first code of this width, one bit or more, that meets all: whatever the columns before the last, each in turn. */
 static bool find_code(const struct columns *columns, unsigned width, uint64_t *code)
 {
-    uint64_t leads = codes_of(columns, width - 1);
+    uint64_t leads = (uint64_t)1 << (width - 1) * columns->digits;
     for (uint64_t lead = 0; lead < leads; lead++) {
-        uint64_t met = met_by_code(columns, lead, width - 1);
-        for (unsigned last = 0; last < columns->number; last++) {
-            if ((met | columns->meets[last]) == columns->all) {
-                *code = lead * columns->number + last;
-                return true;
-            }
+        unsigned last = last_column(columns, left_by(columns, lead, width - 1));
+        if (last < columns->number) {
+            *code = lead << columns->digits | last;
+            return true;
         }
     }
     return false;
@@ -84,7 +87,7 @@ static bool find_code(const struct columns *columns, unsigned width, uint64_t *c
 
 /* "find a code of least width that meets them all, up to 5 bits"; no bits is a width where nothing is asked (reading 28). "The report's
    passes and looks are 0." False if there is none. */
-bool second_find_least(const struct second_requirements *requirements, unsigned states, struct second_code *code)
+static bool find_least(const struct second_requirements *requirements, unsigned states, struct second_code *code)
 {
     struct columns columns;
     uint64_t number = 0;
@@ -99,7 +102,7 @@ bool second_find_least(const struct second_requirements *requirements, unsigned 
     code->passes = 0;
     code->looks = 0;
     for (unsigned place = 0; place < width; place++)
-        code->bit[place] = columns.bit[digit_of(&columns, number, width - 1 - place)];
+        code->bit[place] = columns.bit[column_at(&columns, number, width - 1 - place)];
     return found;
 }
 
@@ -136,5 +139,16 @@ struct second_refusal second_least_code(const uint8_t *listing, size_t length, s
     second_draw_up(machine, requirements);
     if (requirements->number > SECOND_LEAST_REQUIREMENTS)
         return refuse(SECOND_LIMIT, 0);
-    return second_find_least(requirements, machine->states, code) ? refusal : refuse(SECOND_NO_CODE, 0);
+    return find_least(requirements, machine->states, code) ? refusal : refuse(SECOND_NO_CODE, 0);
+}
+
+int64_t second_least(const uint8_t *listing, size_t listing_length, uint8_t *out, size_t out_length)
+{
+    return second_report_by(second_least_code, listing, listing_length, out, out_length);
+}
+
+/* Never refused 9: the code meets everything. */
+int64_t second_least_cover(const uint8_t *listing, size_t listing_length, uint8_t *out, size_t out_length)
+{
+    return second_cover_by(second_least_code, listing, listing_length, out, out_length);
 }

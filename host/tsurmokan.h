@@ -35,7 +35,19 @@ extern int64_t tsurmokan_cover(const uint8_t *listing, size_t listing_length, ui
  * given. 899 bytes are always enough. */
 extern int64_t tsurmokan_widths(const uint8_t *listing, size_t listing_length, uint8_t *out, size_t out_length);
 
-/* ---- the same in parts, for a host that is short of memory ---- */
+/* ---- the fewest bits, for small machines ---- */
+
+/* The report of a listing of up to 6 states and at most 32 requirements in a code of the fewest bits that meets them all: of the shortest
+ * codes the first, comparing columns, first column first, as numbers of which state 1 is the highest digit, state 0 having 0. As
+ * tsurmokan_report; nothing is unmet, and passes and looks are 0. The listing's own width is not used, and 7 and 9 are never given. More states
+ * are refused 2 at line 1, more requirements 2 at line 0 after 6, and 16 says that no code of 5 bits meets everything. 329 bytes are always
+ * enough. */
+extern int64_t tsurmokan_least(const uint8_t *listing, size_t listing_length, uint8_t *out, size_t out_length);
+
+/* The cover in that code, as tsurmokan_cover writes it, with the refusals of tsurmokan_least; 8,071 bytes are always enough. */
+extern int64_t tsurmokan_least_cover(const uint8_t *listing, size_t listing_length, uint8_t *out, size_t out_length);
+
+/* ---- the report and the cover in parts, for a host that is short of memory ---- */
 
 /* What is left of the report of a listing from byte `from` on: as many whole lines as fit.
  *   from                      how many bytes of the report the host has already, 0 at first; any number has its answer, and where
