@@ -1,9 +1,10 @@
 /* Small machines by chance, for the fewest bits. */
 #include "generate_least.h"
 
-/* The limits of 02's request 11, written down again here so that the generator depends on no encoder. */
+/* The limits of 01 and of 02's request 11, written down again here so that the generator depends on no encoder. */
 #define SMALL_STATES 6
 #define SMALL_REQUIREMENTS 32
+#define SMALL_BYTES 65536
 
 #define STATES 64
 #define INPUTS 5 /* as many as tell 32 rows apart */
@@ -385,6 +386,14 @@ void generate_least_good(struct chance *chance, enum generate_least_family famil
     put_listing(chance, &draft, listing);
 }
 
+/* As many bytes as there may be, one fewer, or one or two more, whatever they say. */
+static void fill_up(struct chance *chance, struct generated *listing)
+{
+    size_t wanted = chance_from(chance, SMALL_BYTES - 1, SMALL_BYTES + 2);
+    memset(listing->bytes + listing->length, chance_part(chance, 1, 2) ? 'x' : '\n', wanted - listing->length);
+    listing->length = wanted;
+}
+
 /* A good one; or one with one or two damages, which are those of larger machines too. */
 void generate_least(uint64_t seed, uint64_t number, bool damaged, struct generated *listing)
 {
@@ -392,6 +401,8 @@ void generate_least(uint64_t seed, uint64_t number, bool damaged, struct generat
     generate_least_good(&chance, draw_family(&chance), listing);
     if (!damaged)
         return;
+    if (chance_part(&chance, 1, listing->states > SMALL_STATES ? 8 : 200))
+        fill_up(&chance, listing);
     for (unsigned damages = chance_part(&chance, 1, 5) ? 2 : 1; damages > 0; damages--)
         generate_damage(&chance, generate_draw_damage(&chance), listing);
     listing->kind = LEAST_DAMAGED;

@@ -37,6 +37,7 @@ enum sort {
     ASKED_UNTOLD,
     CROWD,
     TOO_LONG,
+    TOO_LONG_LARGE,
     SORTS
 };
 
@@ -79,7 +80,8 @@ static struct {
     [ASKED_CONFLICT] = {"6 before 2 for requirements", 15, 0},
     [ASKED_UNTOLD] = {"17 before 2 for requirements", 10, 0},
     [CROWD] = {"2 for over 64 dichotomies of a flow table", 10, 0},
-    [TOO_LONG] = {"2 for a listing too long", 3, 0},
+    [TOO_LONG] = {"2 for a listing too long", 20, 0},
+    [TOO_LONG_LARGE] = {"so, of over 6 states", 5, 0},
 };
 
 static void count(enum sort sort, bool seen)
@@ -170,8 +172,9 @@ void seen_least(const uint8_t *listing, size_t length, int64_t least, int64_t co
 {
     static struct second_machine machine;
     static struct second_requirements requirements;
-    count(TOO_LONG, length > SECOND_BYTES && least == -200000);
     struct second_refusal refusal = second_read_head(listing, length, &machine);
+    count(TOO_LONG, length > SECOND_BYTES && least == -200000);
+    count(TOO_LONG_LARGE, length > SECOND_BYTES && refusal.number == SECOND_FINE && machine.states > SECOND_LEAST_STATES);
     see_states(listing, length, &machine, refusal.number == SECOND_FINE, least);
     if (refusal.number != SECOND_FINE || machine.states > SECOND_LEAST_STATES)
         return;
