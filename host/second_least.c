@@ -20,7 +20,7 @@ struct columns {
     unsigned number;
     uint64_t bit[COLUMNS];
     uint64_t meets[COLUMNS];
-    uint64_t met_by[SECOND_LEAST_REQUIREMENTS];
+    uint64_t met_by[64];
     uint64_t all; /* the requirements that a code is to meet */
 };
 
