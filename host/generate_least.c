@@ -401,7 +401,7 @@ void generate_least(uint64_t seed, uint64_t number, bool damaged, struct generat
     generate_least_good(&chance, draw_family(&chance), listing);
     if (!damaged)
         return;
-    if (chance_part(&chance, 1, listing->states > SMALL_STATES ? 8 : 200))
+    if (chance_part(&chance, 1, listing->states > SMALL_STATES ? 3 : 200))
         fill_up(&chance, listing);
     for (unsigned damages = chance_part(&chance, 1, 5) ? 2 : 1; damages > 0; damages--)
         generate_damage(&chance, generate_draw_damage(&chance), listing);

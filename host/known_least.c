@@ -87,7 +87,9 @@ static const struct known refused[] = {
 };
 
 /* In the first, six dichotomies of all states ask for a column each; so do five in the second, whose numbers are 23, 27, 29, 30 and 31: a
-   code of five columns above 23 would not tell state 1 from state 2. In the third, rows that hold in all states but one ask for them. */
+   code of five columns above 23 would not tell state 1 from state 2. In the third, rows that hold in all states but one ask for them. The
+   last two were found by changing one dichotomy after the other, so that a search has the most steps that, of each column, tries only those that meet
+   the lowest requirement left, or only those that meet some requirement left. */
 const struct known_least_long known_least_long[KNOWN_LEAST_LONG] = {
     {"no code of 5 bits",
      "MC 6 1 1 0\nDI +-+---\nDI +--+--\nDI +---+-\nDI +----+\nDI +-----\nDI ++----\nDI +-....\nDI +.-...\nDI +..-..\nDI +...-.\n"
@@ -100,6 +102,14 @@ const struct known_least_long known_least_long[KNOWN_LEAST_LONG] = {
     {"rows for all states but one",
      "MC 6 3 1 0\nPT 000 111110 000000 1\nPT 001 111101 000000 1\nPT 010 111011 000000 1\nPT 011 110111 000000 1\n"
      "PT 100 101111 000000 1\nPT 101 011111 000000 1\nPT 110 110000 000000 1\nPT 111 001100 000000 1\nDI ++++..\nDI ....++\nDI +.+.+.\nEN\n",
+     NULL},
+    {"dichotomies of few states",
+     "MC 6 1 1 0\nDI ..--..\nDI --....\nDI .-..-.\nDI ..+..+\nDI -.-...\nDI ....++\nDI ..-.-.\nDI .+++..\nDI +-..-.\nDI +..++.\n"
+     "DI --...-\nDI -+.--+\nDI .-.-++\nDI .+.+.+\nDI -..-.-\nDI --++.+\nDI ++.-.+\nEN\n",
+     NULL},
+    {"dichotomies of many states",
+     "MC 6 1 1 0\nDI +.+-+.\nDI .++-..\nDI --...-\nDI .+.+++\nDI +-.-.+\nDI -+..+.\nDI .----.\nDI -.+--.\nDI +..-+-\nDI .-..+-\n"
+     "DI ++-+--\nDI +--+--\nDI +-+++-\nDI .-.+++\nDI +-+..+\nDI -.++..\nDI +.++--\nEN\n",
      NULL},
 };
 

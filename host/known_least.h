@@ -15,7 +15,7 @@ unsigned known_least_run(const struct least_entries *encoder, unsigned *checks);
 
 /* The machines that take a search longest, as far as they are known: 6 states and 32 requirements, no code of 5 bits or one that comes late.
    Each name, listing and the first bytes of the report, or NULL where it is refused 16. */
-#define KNOWN_LEAST_LONG 3
+#define KNOWN_LEAST_LONG 5
 struct known_least_long {
     const char *name;
     const char *listing;
