@@ -17,6 +17,7 @@ use Rattle.rules.specs.Looks.{looksAt}
 use Rattle.rules.specs.Cover.{face, faceAt}
 use Rattle.rules.specs.Answers.{reportReply, coverReply, printed}
 use Rattle.rules.specs.Widths.{widthsReply}
+use Rattle.rules.specs.Least.{leastReply, leastCoverReply}
 use Rattle.rules.specs.declared.Head.{Head}
 use Rattle.rules.specs.declared.Requirement.{Requirement}
 use Rattle.rules.specs.declared.HeadLine.{HeadLine}
@@ -57,6 +58,9 @@ pub data Case : Type 0 where
   covers : String → String → Case
   -- what each width buys it
   buys : String → String → Case
+  -- the report of a small machine's least code, and the cover in it
+  leasts : String → String → Case
+  least-covers : String → String → Case
   -- a first line, and the numbers read
   reads : String → Head → Case
   -- some states' codes, a group as in `PT`, and its face; all that the group asks is met
@@ -132,6 +136,10 @@ cases =
     ∷ reports "MC 65 1 1 0\n" "NO 2 1\n"
     ∷ covers sequencer ".i 4\n.o 5\n.type fd\n.p 8\n1-00 01000\n-101 11000\n-001 01000\n-111 10000\n-011 11000\n--01 00100\n--11 00010\n--10 000-1\n.e\n"
     ∷ reports "MO 2 1 1 0\nOU 1 1\nEN\n" "NO 17 3\n"
+    ∷ leasts p1 "CT 2 5 0 0 0\nSC 0 00\nSC 1 01\nSC 2 10\nBY 0 1\nBY 1 0\nBY 2 0\nBY 3 0\nBY 4 1\nEN\n"
+    ∷ least-covers p1 ".i 3\n.o 3\n.type fd\n.p 1\n00- 101\n.e\n"
+    ∷ leasts p3 "CT 0 0 0 0 0\nSC 0 -\nEN\n"
+    ∷ leasts "MC 7 1 1 0\nXX\n" "NO 2 1\n"
     ∷ []
 
 -- ---- what a case states
@@ -140,6 +148,8 @@ abbrev pub Holds : Case → Type 0
 Holds (reports listing text) = printed (reportReply (bytes listing)) ≡ bytes text
 Holds (covers listing text) = printed (coverReply (bytes listing)) ≡ bytes text
 Holds (buys listing text) = printed (widthsReply (bytes listing)) ≡ bytes text
+Holds (leasts listing text) = printed (leastReply (bytes listing)) ≡ bytes text
+Holds (least-covers listing text) = printed (leastCoverReply (bytes listing)) ≡ bytes text
 Holds (reads line head) = headLine (head .moore) (bytes line) ≡ HeadLine.Read head
 Holds (faces codes group text) =
     (face (length codes) (bitsOf codes) (setOf one (bytes group)) ≡ bytes text)
@@ -158,10 +168,12 @@ sameHead (HeadLine.Read a) b = eqb (a .states) (b .states) && eqb (a .inputs) (b
 sameHead (HeadLine.Refused r) b = false
 
 right : Case → Bool
-unfolding same reportReply coverReply widthsReply printed headLine sameHead faceAt allMet groupAsks looksOf metByCode bitsIn setOf
+unfolding same reportReply coverReply widthsReply leastReply leastCoverReply printed headLine sameHead faceAt allMet groupAsks looksOf metByCode bitsIn setOf
 right (reports listing text) = same (printed (reportReply (bytes listing))) (bytes text)
 right (covers listing text) = same (printed (coverReply (bytes listing))) (bytes text)
 right (buys listing text) = same (printed (widthsReply (bytes listing))) (bytes text)
+right (leasts listing text) = same (printed (leastReply (bytes listing))) (bytes text)
+right (least-covers listing text) = same (printed (leastCoverReply (bytes listing))) (bytes text)
 right (reads line head) = sameHead (headLine (head .moore) (bytes line)) head
 right (faces codes group text) =
     same (face (length codes) (bitsOf codes) (setOf one (bytes group))) (bytes text)
@@ -219,6 +231,8 @@ unfolding right
 right-holds (reports listing text) e = same-eq _ _ e
 right-holds (covers listing text) e = same-eq _ _ e
 right-holds (buys listing text) e = same-eq _ _ e
+right-holds (leasts listing text) e = same-eq _ _ e
+right-holds (least-covers listing text) e = same-eq _ _ e
 right-holds (reads line head) e = head-eq _ _ e
 right-holds (faces codes group text) e =
     let a : Bool = same (face (length codes) (bitsOf codes) (setOf one (bytes group))) (bytes text) in

@@ -26,6 +26,13 @@ pub const MOST_BYTES: usize = 65536;
 
 pub const MOST_TRIAL: usize = 256;
 
+// The limits of a small machine, of which the least code is found: its states, its requirements, and the bits of the code.
+pub const MOST_SMALL: usize = 6;
+
+pub const MOST_SMALL_ASKED: usize = 32;
+
+pub const MOST_COLUMNS: usize = 5;
+
 // A state's number, from 0. Moves and gains take it, a C host's too.
 #[repr(C)]
 pub struct StateNumber(pub usize);
@@ -110,6 +117,7 @@ pub enum Refusal {
     Unmet,
     NoRoom,
     BadCall,
+    NoShortCode,
     NoOutputs,
 }
 
@@ -129,6 +137,7 @@ impl Refusal {
             Refusal::Unmet => 9,
             Refusal::NoRoom => 10,
             Refusal::BadCall => 11,
+            Refusal::NoShortCode => 16,
             Refusal::NoOutputs => 17,
         }
     }
