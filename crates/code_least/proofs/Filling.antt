@@ -1,5 +1,5 @@
 -- An array whose first places a loop fills, place k with f of the element k of a list.
-use mathlib.Core.Path.{_≡_, refl, sym, ap, _∙_}
+use mathlib.Core.Path.{_≡_, sym, ap, _∙_}
 use mathlib.Core.List.{List, [], _∷_, _++_, map, map-append, append-assoc, append-nil}
 use Prim.Native.Nat.{ℕ, zero, suc, _+_, _-_, _≤_, _<_}
 use native.Mathlib.Numerals.{add-one}
@@ -8,7 +8,7 @@ use lib.ListN.{length, take, drop, getD, set, length-map}
 use lib.Seq.{take-suc, take-all, drop-cons, drop-length, length-take-le, set-at}
 use Rattle.sets.specs.Sets.{statesFrom}
 use Rattle.rules.proofs.Most.{states-length}
-use Rattle.rules.specs.Least.{turned, column}
+use Rattle.rules.specs.Least.{column}
 use Rattle.rules.specs.declared.Requirement.{Requirement}
 use Rattle.code_least.specs.Table.{maskFrom, masks}
 

@@ -1,14 +1,13 @@
 -- Masks as a walk makes them, digit by digit: one requirement more, and the room for it.
-use mathlib.Core.Path.{_≡_, sym, ap, _∙_}
+use mathlib.Core.Path.{_≡_, sym, ap}
 use mathlib.Core.Bool.{Bool, true, false}
-use mathlib.Core.List.{List, _∷_}
+use mathlib.Core.List.{List}
 use Prim.Native.Nat.{ℕ, suc, _+_, _-_, _*_, _^_, _≤_, _<_}
 use native.Mathlib.Omega.{arith}
 use lib.ListN.{length}
 use lib.Pow.{pow-mono, pow-pos}
 use Rattle.rules.specs.Text.{digit}
 use Rattle.rules.specs.Requirements.{met}
-use Rattle.rules.specs.declared.Requirement.{Requirement}
 use Rattle.code_walking.specs.Walking.{ahead, here, next}
 use Rattle.code_walking.specs.declared.Walk.{Walk}
 use Rattle.code_walking.proofs.Ahead.{over-none, ahead-step}

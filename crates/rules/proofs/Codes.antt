@@ -9,7 +9,7 @@ use Prim.Native.Nat.{ℕ, zero, suc, _+_, _≤_, _<_}
 use native.Mathlib.Omega.{arith}
 use lib.ListN.{length}
 use Rattle.sets.specs.Sets.{statesFrom}
-use Rattle.rules.specs.Least.{inFront, codesOf, codesUpTo, First, first, none, firstWith}
+use Rattle.rules.specs.Least.{inFront, codesOf, First, first, none, firstWith}
 use Rattle.rules.proofs.Runs.{Below}
 use Rattle.rules.proofs.Asked.{state-listed}
 

@@ -1,10 +1,10 @@
 -- Columns of a small machine: which value a state has in the bit of a column, and that every bit with state 0 at 0 is the bit of one.
 use mathlib.Core.Path.{_≡_, sym, subst, ap, _∙_}
-use Prim.Native.Nat.{ℕ, zero, suc, _+_, _-_, _*_, _/_, _%_, _^_, _≤_, _<_}
+use Prim.Native.Nat.{ℕ, zero, suc, _+_, _-_, _*_, _/_, _^_, _≤_, _<_}
 use native.Mathlib.Omega.{arith}
 use lib.Pow.{pow-pos}
 use Rattle.sets.specs.Sets.{has}
-use Rattle.sets.proofs.Members.{has-lt, has-zero, has-suc, has-high, same-mask}
+use Rattle.sets.proofs.Members.{has-lt, has-zero, has-suc, same-mask}
 use Rattle.rules.specs.Least.{turned, column, columnsOf}
 
 -- a digit behind the others

@@ -3,24 +3,22 @@
 use mathlib.Core.Path.{_≡_, refl, sym, ap, _∙_}
 use mathlib.Core.Logic.{_↔_}
 use mathlib.Core.Bool.{Bool, true, false, cond, true≢false}
-use mathlib.Core.List.{List, [], _∷_, _++_, map, List·Memᴰ, List·Memᴰ·append-cases, Memᴰ·append-left, Memᴰ·append-right}
-use Prim.Native.Nat.{ℕ, zero, suc, _+_, _≤_, _<_}
+use mathlib.Core.List.{List, [], _∷_}
+use Prim.Native.Nat.{ℕ, zero, suc, _≤_, _<_}
 use native.Mathlib.Decide.{ℕ-discrete}
 use native.Mathlib.Omega.{arith}
-use lib.Dec.{leb, eqb}
 use lib.ListN.{length}
-use borrow.Author.Tests.{eqb-true, eq-eqb}
-use Rattle.rules.specs.Limits.{most-columns, most-small-asked}
-use Rattle.rules.specs.Listing.{reading, rowsOf, conflict}
+use borrow.Author.Tests.{eqb-true}
+use Rattle.rules.specs.Limits.{most-columns}
 use Rattle.rules.specs.Requirements.{requirements}
-use Rattle.rules.specs.Code.{Code, Coding, coded, uncoded, unmetFrom, unmet}
-use Rattle.rules.specs.Least.{column, columnsOf, bitsFor, codesOf, codesUpTo, meetsAll, First, first, none, firstWith, least, codedBy, isSmall, leastCoding}
+use Rattle.rules.specs.Code.{Code, coded, uncoded, unmetFrom, unmet}
+use Rattle.rules.specs.Least.{columnsOf, bitsFor, codesOf, codesUpTo, meetsAll, First, first, none, firstWith, least, codedBy, isSmall, leastCoding}
 use Rattle.rules.specs.declared.Requirement.{Requirement}
 use Rattle.rules.specs.declared.Listing.{Listing}
 use Rattle.rules.specs.declared.Refusal.{Refusal}
 use Rattle.rules.specs.declared.Refusal.the-variants.{Limit, NoShortCode}
 use Rattle.rules.proofs.Ways.{chose-first, chose-second}
-use Rattle.rules.proofs.Codes.{Columns, Before, code-listed, listed-code, codes-in-order, none-has, has-none, FirstOf, first-of, orThen, first-append}
+use Rattle.rules.proofs.Codes.{Columns, Before, code-listed, listed-code, codes-in-order, none-has, first-of, orThen, first-append}
 
 -- ---- the first of the codes of at most w columns
 

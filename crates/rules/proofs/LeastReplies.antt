@@ -2,7 +2,7 @@
 -- the listing and is never refused 9.
 use mathlib.Core.Path.{_≡_, refl, sym, subst, ap, _∙_}
 use mathlib.Core.Bool.{Bool, true, false, _&&_, cond}
-use mathlib.Core.List.{List, [], _∷_, List·Memᴰ, List·Memᴰ·head, List·Memᴰ·tail, List·Memᴰ·not-nil, Memᴰ·append-left}
+use mathlib.Core.List.{List, [], _∷_, List·Memᴰ·head, List·Memᴰ·tail, List·Memᴰ·not-nil, Memᴰ·append-left}
 use Prim.Native.Nat.{ℕ, suc}
 use native.Mathlib.Omega.{arith}
 use lib.Dec.{leb}
@@ -10,17 +10,16 @@ use lib.ListN.{length}
 use Rattle.rules.specs.Limits.{most-bytes}
 use Rattle.rules.specs.Text.{linesOf}
 use Rattle.rules.specs.Listing.{refused, rowsOf, dichotomiesOf, complete, conflict, reading}
-use Rattle.rules.specs.Requirements.{pairsAndGroups, requirements, metByCode}
+use Rattle.rules.specs.Requirements.{pairsAndGroups, requirements}
 use Rattle.rules.specs.Code.{Code, coded, unmetFrom, unmet}
 use Rattle.rules.specs.Report.{report}
 use Rattle.rules.specs.Cover.{cover}
-use Rattle.rules.specs.Answers.{Reply, says, refuses, reportOf, coverOf}
+use Rattle.rules.specs.Answers.{says, refuses, reportOf, coverOf}
 use Rattle.rules.specs.Least.{leastCoding, beginsLarge, smallReading, leastReply, leastCoverReply}
 use Rattle.rules.specs.declared.Requirement.{Requirement}
 use Rattle.rules.specs.declared.Listing.{Listing}
 use Rattle.rules.specs.declared.Reading.{Reading}
 use Rattle.rules.specs.declared.Verdict.{Verdict}
-use Rattle.rules.specs.declared.Refusal.{Refusal}
 use Rattle.rules.specs.declared.Refusal.the-variants.{Limit, Unmet}
 use Rattle.rules.proofs.Unmet.{listed-met, unmet-listed}
 use Rattle.rules.proofs.Faces.{AllMet}

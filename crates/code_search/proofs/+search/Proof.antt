@@ -9,7 +9,7 @@ use borrow.Fn.Kinds.{In}
 use borrow.Fn.PlainCycle.{Measures, is, falls, and}
 use lib.ListN.{length, length-set}
 use Rattle.rules.specs.Least.{First}
-use Rattle.code_search.specs.Search.{behind, searched, told}
+use Rattle.code_search.specs.Search.{searched, told}
 use Rattle.code_search.proofs.Places.{rest, withRest, Came, none-left, found, not-found, none-found, with-length, rest-length}
 use Rattle.code_search.proofs.search.Reads as search′
 use Rattle.code_search.proofs.search.Kinds as search-kinds

@@ -12,9 +12,6 @@ use Rattle.code_search.specs.declared.Found.{Found}
 use Rattle.code_search.proofs.Widths.{none-more, width-found, width-none, no-width}
 use Rattle.code_search.proofs.search_widths.Statement.{statement}
 use Rattle.code_search.proofs.search_widths.Tie as tie
-use Rattle.code_search.proofs.search_widths.Reads as reads
-use Rattle.code_search.proofs.search_widths.Lts as lts
-use Rattle.code_search.proofs.search.Reads as search-reads
 
 abbrev Inv-loop : tie.InvT-loop
 Inv-loop met left columns₀ w₀ columns w =

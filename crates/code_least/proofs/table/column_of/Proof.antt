@@ -1,6 +1,6 @@
 -- `code_least::table::column_of` meets its contract: so many digits are turned.
-use mathlib.Core.Path.{_≡_, refl, sym, ap, _∙_}
-use Prim.Native.Nat.{ℕ, _≤_, _<_, _-_, _+_, _*_, _^_}
+use mathlib.Core.Path.{_≡_, refl}
+use Prim.Native.Nat.{_≤_, _-_}
 use native.Mathlib.Omega.{arith}
 use borrow.Author.Needs.{needs}
 use Rattle.rules.specs.Least.{turned}
@@ -8,8 +8,6 @@ use Rattle.sets.proofs.Members.{has-lt}
 use Rattle.code_least.proofs.Columns.{turned-more, turned-fits, turned-column}
 use Rattle.code_least.proofs.table.column_of.Statement.{statement}
 use Rattle.code_least.proofs.table.column_of.Tie as tie
-use Rattle.code_least.proofs.table.column_of.Reads as reads
-use Rattle.code_least.proofs.table.column_of.Lts as lts
 
 abbrev Inv-loop : tie.InvT-loop
 Inv-loop n v k₀ b₀ k b =

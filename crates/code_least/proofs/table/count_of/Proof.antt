@@ -1,6 +1,6 @@
 -- `code_least::table::count_of` meets its contract: those counted and those ahead are all.
-use mathlib.Core.Path.{_≡_, refl, sym, ap, _∙_}
-use Prim.Native.Nat.{ℕ, _≤_, _<_, _-_, _+_, _*_, _^_}
+use mathlib.Core.Path.{_≡_, sym, ap, _∙_}
+use Prim.Native.Nat.{_<_, _-_, _+_, _^_}
 use native.Mathlib.Omega.{arith}
 use borrow.Author.Needs.{needs}
 use borrow.Author.Tests.{ltb-true, ltb-false, not-true, not-false}
@@ -11,11 +11,6 @@ use Rattle.code_walking.proofs.Ahead.{begun-ahead, ahead-shorter, over-none}
 use Rattle.code_least.proofs.Masks.{ahead-one}
 use Rattle.code_least.proofs.table.count_of.Statement.{statement}
 use Rattle.code_least.proofs.table.count_of.Tie as tie
-use Rattle.code_least.proofs.table.count_of.Reads as reads
-use Rattle.code_least.proofs.table.count_of.Lts as lts
-use Rattle.code_walking.proofs.enter.Reads as enter-reads
-use Rattle.code_walking.proofs.is_over.Reads as is-over-reads
-use Rattle.code_walking.proofs.step.Reads as step-reads
 
 abbrev Inv-loop : tie.InvT-loop
 Inv-loop fs count₀ w₀ count w =

@@ -1,6 +1,6 @@
 -- `code_least::table::fill_bits` meets its contract: the bits of the columns passed stand in the first places.
-use mathlib.Core.Path.{_≡_, refl, sym, ap, _∙_}
-use Prim.Native.Nat.{ℕ, _≤_, _<_, _-_, _+_}
+use mathlib.Core.Path.{_≡_, refl, ap, _∙_}
+use Prim.Native.Nat.{_≤_, _-_}
 use native.Mathlib.Omega.{arith}
 use borrow.Author.Needs.{needs}
 use lib.ListN.{length, set, length-set}
@@ -8,9 +8,6 @@ use Rattle.rules.specs.Least.{column}
 use Rattle.code_least.proofs.Filling.{filled, filled-more, filled-all}
 use Rattle.code_least.proofs.table.fill_bits.Statement.{statement}
 use Rattle.code_least.proofs.table.fill_bits.Tie as tie
-use Rattle.code_least.proofs.table.fill_bits.Reads as reads
-use Rattle.code_least.proofs.table.fill_bits.Lts as lts
-use Rattle.code_least.proofs.table.column_of.Reads as column-of-reads
 
 abbrev Inv-loop : tie.InvT-loop
 Inv-loop n code bits₀ k₀ bits k =

@@ -1,6 +1,6 @@
 -- `code_least::table::fill_masks` meets its contract: the masks of the columns passed stand in the first places.
-use mathlib.Core.Path.{_≡_, refl, sym, ap, _∙_}
-use Prim.Native.Nat.{ℕ, _≤_, _<_, _-_, _+_}
+use mathlib.Core.Path.{_≡_, refl, ap, _∙_}
+use Prim.Native.Nat.{ℕ, _≤_, _-_}
 use native.Mathlib.Omega.{arith}
 use borrow.Author.Needs.{needs}
 use lib.ListN.{length, set, length-set}
@@ -12,10 +12,6 @@ use Rattle.code_least.specs.Table.{maskFrom}
 use Rattle.code_least.proofs.Filling.{filled, filled-more, filled-all, column-at, masks-all}
 use Rattle.code_least.proofs.table.fill_masks.Statement.{statement}
 use Rattle.code_least.proofs.table.fill_masks.Tie as tie
-use Rattle.code_least.proofs.table.fill_masks.Reads as reads
-use Rattle.code_least.proofs.table.fill_masks.Lts as lts
-use Rattle.code_least.proofs.table.column_of.Reads as column-of-reads
-use Rattle.code_least.proofs.table.mask_of.Reads as mask-of-reads
 
 abbrev Inv-loop : tie.InvT-loop
 Inv-loop n fs met₀ v₀ met v =
@@ -57,8 +53,8 @@ loop-again c =
     let mask = c .mask-of .ensures ∙ ap (λ b. maskFrom 0 b (requirementsIn (s .args .fs .now))) (c .before .column-of .ensures) ∙ ap f there in
     let all = states-length 0 (length (s .args .met .now)) in
     let next =
-        ap (λ b. set b (l .loop .v) (c .mask-of .result)) (l .loop .inv .2)
-        ∙ filled-more f (statesFrom 0 (length (s .args .met .now))) (s .args .met .now) (omega (arith, all)) (l .loop .v) (omega (arith, all, i .loop-test .taken, l .loop .inv .1)) mask in
+    ap (λ b. set b (l .loop .v) (c .mask-of .result)) (l .loop .inv .2)
+    ∙ filled-more f (statesFrom 0 (length (s .args .met .now))) (s .args .met .now) (omega (arith, all)) (l .loop .v) (omega (arith, all, i .loop-test .taken, l .loop .inv .1)) mask in
     (omega (arith, i .loop-test .taken, l .loop .inv .1), length-set (l .loop .met) (l .loop .v) (c .mask-of .result) ∙ l .loop .inv .1, next)
 
 same-length : tie.Need-same-length Inv-loop μ-loop

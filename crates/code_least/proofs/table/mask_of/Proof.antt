@@ -1,6 +1,6 @@
 -- `code_least::table::mask_of` meets its contract: the mask from here on is the mask from the start, and each requirement ahead has room for its digit.
-use mathlib.Core.Path.{_≡_, refl, sym, ap, _∙_}
-use Prim.Native.Nat.{ℕ, _≤_, _<_, _-_, _+_, _*_, _^_}
+use mathlib.Core.Path.{_≡_, sym, ap, _∙_}
+use Prim.Native.Nat.{_<_, _-_, _+_, _*_, _^_}
 use native.Mathlib.Omega.{arith}
 use borrow.Author.Needs.{needs}
 use borrow.Author.Tests.{ltb-true, ltb-false, not-true, not-false}
@@ -14,14 +14,6 @@ use Rattle.code_least.specs.Table.{maskFrom}
 use Rattle.code_least.proofs.Masks.{Room, room-start, room-fits, room-more, mask-step, mask-end, ahead-one}
 use Rattle.code_least.proofs.table.mask_of.Statement.{statement}
 use Rattle.code_least.proofs.table.mask_of.Tie as tie
-use Rattle.code_least.proofs.table.mask_of.Reads as reads
-use Rattle.code_least.proofs.table.mask_of.Lts as lts
-use Rattle.code_judging.proofs.meets.Reads as meets-reads
-use Rattle.code_least.proofs.table.with_digit.Reads as with-digit-reads
-use Rattle.code_walking.proofs.enter.Reads as enter-reads
-use Rattle.code_walking.proofs.is_over.Reads as is-over-reads
-use Rattle.code_walking.proofs.requirement.Reads as requirement-reads
-use Rattle.code_walking.proofs.step.Reads as step-reads
 
 abbrev Inv-loop : tie.InvT-loop
 Inv-loop b fs m₀ w₀ m w =
@@ -80,8 +72,7 @@ loop-again c =
     let w = l .loop .w in
     let some = ltb-false (length fs) (w .at + 3) (sym (o .before .is-over .ensures) ∙ not-true _ (o .if1 .taken)) in
     let met-here = c .before .before .meets .ensures ∙ ap (λ r. met 64 r (a .b)) (c .before .before .before .requirement .ensures) in
-    let digit-here = c .before .with-digit .ensures ∙ ap (λ d. l .loop .m * 2 + digit d) met-here in
-    (
+    let digit-here = c .before .with-digit .ensures ∙ ap (λ d. l .loop .m * 2 + digit d) met-here in (
       omega arith,
       rw (digit-here, c .step .ensures) (room-more (l .loop .m) (length (ahead fs w)) (length (ahead fs (next fs w))) (met 64 (here fs w) (a .b)) (l .loop .inv .1) (ahead-one fs w some (l .loop .inv .0))),
       rw (digit-here, c .step .ensures) (mask-step (a .b) (l .loop .m) fs w some (l .loop .inv .0)) ∙ l .loop .inv .2,

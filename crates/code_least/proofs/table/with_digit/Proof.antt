@@ -1,14 +1,12 @@
 -- `code_least::table::with_digit` meets its contract, by whether the digit is 1.
 use mathlib.Core.Path.{_≡_, sym, ap, _∙_}
-use mathlib.Core.Bool.{Bool, true, false}
-use Prim.Native.Nat.{ℕ, _+_, _*_}
+use mathlib.Core.Bool.{Bool}
+use Prim.Native.Nat.{_+_, _*_}
 use native.Mathlib.Omega.{arith}
 use borrow.Author.Needs.{needs}
 use Rattle.rules.specs.Text.{digit}
 use Rattle.code_least.proofs.table.with_digit.Statement.{statement}
 use Rattle.code_least.proofs.table.with_digit.Tie as tie
-use Rattle.code_least.proofs.table.with_digit.Reads as reads
-use Rattle.code_least.proofs.table.with_digit.Lts as lts
 
 mul-result : tie.Need-mul-result
 mul-result c = search needs
