@@ -87,3 +87,12 @@ lineSays k h rows dichotomies given l = cond (placed (markIs (markOf l)) k h giv
 unfoldable pub outputsVerdict : ℕ → Head → ℕ → Verdict
 unfolding complete
 outputsVerdict k h given = cond (complete h given) Verdict.Accepted (Verdict.Refused NoOutputs k)
+
+-- how many states a line names; none where it gives no head
+unfoldable pub statesSaid : Said → ℕ
+statesSaid (Said.Head h) = h .states
+statesSaid (Said.Row r) = 0
+statesSaid (Said.Dichotomy d) = 0
+statesSaid (Said.Outputs s p) = 0
+statesSaid Said.End = 0
+statesSaid (Said.Refused r) = 0

@@ -6,18 +6,14 @@ use lib.Dec.{leb, ltb, eqb}
 use lib.ListN.{length}
 use Rattle.sets.specs.Sets.{has, statesFrom}
 use Rattle.rules.specs.Limits.{most-bytes, most-small, most-small-asked, most-columns}
-use Rattle.rules.specs.Text.{split, linesOf, markOf, markIs}
-use Rattle.rules.specs.Lines.{headLine}
-use Rattle.rules.specs.Listing.{refused, reading}
+use Rattle.rules.specs.Text.{split, linesOf}
+use Rattle.rules.specs.Listing.{blank, refused, goes, ends, stops, lineStep, reading}
 use Rattle.rules.specs.Requirements.{requirements}
 use Rattle.rules.specs.Code.{Coding, coded, uncoded, unmetFrom}
 use Rattle.rules.specs.Report.{report}
 use Rattle.rules.specs.Answers.{Reply, onReading, reportOf, coverOf}
 use Rattle.rules.specs.declared.Requirement.{Requirement}
 use Rattle.rules.specs.declared.Listing.{Listing}
-use Rattle.rules.specs.declared.Mark.{Mark}
-use Rattle.rules.specs.declared.Mark.the-variants.{Mc, Mo, Pt, Di, Ou, En, Unknown}
-use Rattle.rules.specs.declared.HeadLine.{HeadLine}
 use Rattle.rules.specs.declared.Reading.{Reading}
 use Rattle.rules.specs.declared.Refusal.the-variants.{Limit, NoShortCode}
 
@@ -98,27 +94,12 @@ leastCoding t = cond (isSmall t) (codedBy (t .head .states) (least (t .head .sta
 
 -- ---- the reading
 
-abbrev pub overSmall : HeadLine → Bool
-overSmall (HeadLine.Read h) = ltb most-small (h .states)
-overSmall (HeadLine.Refused r) = false
-
--- a line with this mark is a head line, without fault of its own, of more states than a small machine has
-unfoldable pub namesMore : Mark → List ℕ → Bool
-unfolding headLine
-namesMore Mc l = overSmall (headLine false l)
-namesMore Mo l = overSmall (headLine true l)
-namesMore Pt l = false
-namesMore Di l = false
-namesMore Ou l = false
-namesMore En l = false
-namesMore Unknown l = false
-
--- of the lines, the first, which LF ends, does
+-- of the lines, the first, which LF ends, is a head line without fault of its own that names more states than a small machine has
 unfoldable pub beginsLarge : List (List ℕ) → Bool
-unfolding namesMore markOf markIs
+unfolding lineStep blank
 beginsLarge [] = false
 beginsLarge (l ∷ []) = false
-beginsLarge (l ∷ (m ∷ ms)) = namesMore (markIs (markOf l)) l
+beginsLarge (l ∷ (m ∷ ms)) = elim (lineStep 1 blank l) [ goes t ↦ ltb most-small (t .head .states) | ends ↦ false | stops r ↦ false ]
 
 -- more states are a fault of line 1, and so come before any of a later line
 unfoldable pub smallReading : List ℕ → Reading
