@@ -1,101 +1,88 @@
-use Prim.Native.Nat.{ℕ, zero, suc, _≤_, _<_, _-_, _+_, _*_, _^_}
-use mathlib.Core.Path.{_≡_, refl, sym, ap, _∙_}
-use mathlib.Core.Logic.{⊎-elim}
-use mathlib.Core.List.{List, [], _∷_, _++_}
-use mathlib.Core.Bool.{Bool, true, false}
-use native.Mathlib.Omega.{arith}
-use native.Mathlib.Numerals.{add-one}
+-- `write_texts::add_lines` meets its contract, by what is wanted: a report or a cover is written alike in the least code.
+use mathlib.Core.Path.{sym, ap, _∙_}
 use borrow.Author.Needs.{needs}
-use borrow.Author.Tests.{lt-ltb, le-ltb, le-leb, lt-leb, eq-eqb, ne-eqb, not-true, not-false}
-use lib.ListN.{length, take, drop, getD, set}
-use borrow.Author.Needs.{needs}
+use Rattle.write_parts.specs.Parts.{addedAll}
+use Rattle.write_texts.specs.Texts.{textLines}
+use Rattle.write_texts.specs.declared.Wanted.{Wanted}
 use Rattle.write_texts.proofs.add_lines.Statement.{statement}
 use Rattle.write_texts.proofs.add_lines.Tie as tie
-use Rattle.write_texts.proofs.add_lines.Reads as reads
-use Rattle.write_texts.proofs.add_lines.Lts as lts
-use Rattle.write_texts.proofs.add_cover.Reads as add-cover-reads
-use Rattle.write_texts.proofs.add_report.Reads as add-report-reads
-use Rattle.write_texts.proofs.add_widths.Reads as add-widths-reads
 
--- src/lib.rt:78:50
 enum-told : tie.Need-enum-told
 enum-told c = search needs
 
--- src/lib.rt:78:27
 add-report-requires : tie.Need-add-report-requires
 add-report-requires c κs = search needs
 
--- src/lib.rt:79:48
 enum-told-2 : tie.Need-enum-told-2
 enum-told-2 c = search needs
 
--- src/lib.rt:79:26
 add-cover-requires : tie.Need-add-cover-requires
 add-cover-requires c κs = search needs
 
--- src/lib.rt:80:50
 enum-told-3 : tie.Need-enum-told-3
 enum-told-3 c = search needs
 
--- src/lib.rt:80:27
 add-widths-requires : tie.Need-add-widths-requires
 add-widths-requires c κs = search needs
 
--- src/lib.rt:81:49
 enum-told-4 : tie.Need-enum-told-4
 enum-told-4 c = search needs
 
--- src/lib.rt:81:26
 add-report-requires-2 : tie.Need-add-report-requires-2
 add-report-requires-2 c κs = search needs
 
--- src/lib.rt:82:53
 enum-told-5 : tie.Need-enum-told-5
 enum-told-5 c = search needs
 
--- src/lib.rt:82:31
 add-cover-requires-2 : tie.Need-add-cover-requires-2
 add-cover-requires-2 c κs = search needs
 
--- src/lib.rt:74:1
 same-length : tie.Need-same-length
 same-length c = search needs
 
--- src/lib.rt:74:1
 returns : tie.Need-returns
-returns c = ?
+returns c =
+    let a = c .before .before .before .before .before .before .before .args in
+    c .before .before .add-report .ensures
+    ∙ sym (ap (λ (w : Wanted). addedAll (textLines w (a .t) (a .e)) (a .part, a .out .now)) (c .before .before .before .before .enum-told .given .1))
 
--- src/lib.rt:74:1
 same-length-2 : tie.Need-same-length-2
 same-length-2 c = search needs
 
--- src/lib.rt:74:1
 returns-2 : tie.Need-returns-2
-returns-2 c = ?
+returns-2 c =
+    let a = c .before .before .before .before .before .before .before .args in
+    c .before .before .add-cover .ensures
+    ∙ sym (ap (λ (w : Wanted). addedAll (textLines w (a .t) (a .e)) (a .part, a .out .now)) (c .before .before .before .before .enum-told2 .given .1))
 
--- src/lib.rt:74:1
 same-length-3 : tie.Need-same-length-3
 same-length-3 c = search needs
 
--- src/lib.rt:74:1
 returns-3 : tie.Need-returns-3
-returns-3 c = ?
+returns-3 c =
+    let a = c .before .before .before .before .before .before .before .args in
+    c .before .before .add-widths .ensures
+    ∙ sym (ap (λ (w : Wanted). addedAll (textLines w (a .t) (a .e)) (a .part, a .out .now)) (c .before .before .before .before .enum-told3 .given .1))
 
--- src/lib.rt:74:1
 same-length-4 : tie.Need-same-length-4
 same-length-4 c = search needs
 
--- src/lib.rt:74:1
 returns-4 : tie.Need-returns-4
-returns-4 c = ?
+unfolding textLines
+returns-4 c =
+    let a = c .before .before .before .before .before .before .before .args in
+    c .before .before .add-report2 .ensures
+    ∙ sym (ap (λ (w : Wanted). addedAll (textLines w (a .t) (a .e)) (a .part, a .out .now)) (c .before .before .before .before .enum-told4 .given .1))
 
--- src/lib.rt:74:1
 same-length-5 : tie.Need-same-length-5
 same-length-5 c = search needs
 
--- src/lib.rt:74:1
 returns-5 : tie.Need-returns-5
-returns-5 c = ?
+unfolding textLines
+returns-5 c =
+    let a = c .before .before .before .before .before .before .before .args in
+    c .before .before .add-cover2 .ensures
+    ∙ sym (ap (λ (w : Wanted). addedAll (textLines w (a .t) (a .e)) (a .part, a .out .now)) (c .before .before .before .before .enum-told5 .given .1))
 
 pub add-lines-spec : {M : Type 1} → statement M
 add-lines-spec =
