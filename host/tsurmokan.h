@@ -21,7 +21,7 @@
  *                             though a length may be 0
  * Answers the number of bytes written, at least 1; the bytes of `out` behind them are as they came. Or a refusal, below 0:
  * minus (number * 100000 + line), and then `out` is as it came. docs/REFUSALS.md has the numbers: 1 to 10, of which 8 is unused,
- * and 17. */
+ * 16, which the least code alone can give, and 17. */
 extern int64_t tsurmokan_report(const uint8_t *listing, size_t listing_length, uint8_t *out, size_t out_length);
 
 /* The cover of a listing in those codes, in the Berkeley PLA form; a Moore machine's has a row for each state behind those of the listing.
@@ -33,6 +33,16 @@ extern int64_t tsurmokan_cover(const uint8_t *listing, size_t listing_length, ui
  * cover would be written in a code of that width, and then `EN`. As above; the listing's own width is not used, and 7 and 9 are never
  * given. 899 bytes are always enough. */
 extern int64_t tsurmokan_widths(const uint8_t *listing, size_t listing_length, uint8_t *out, size_t out_length);
+
+/* The report of the least code of a small machine: the fewest bits that leave nothing unmet, at most 5, for up to 6 states and 32
+ * requirements; of the codes with so few, the one whose bits, read as numbers with state 1 the highest digit, come first. As
+ * tsurmokan_report, with no `UN` line, and 0 passes and looks; the listing's own width is not used, and 7 is never given. Over 6 states
+ * is 2 at line 1, over 32 requirements 2 at line 0, and 16 at line 0 says that no code of 5 bits meets everything. 329 bytes are always
+ * enough. */
+extern int64_t tsurmokan_least(const uint8_t *listing, size_t listing_length, uint8_t *out, size_t out_length);
+
+/* The cover of a small machine in that code, as tsurmokan_cover; refused as tsurmokan_least, and so never 7 or 9. */
+extern int64_t tsurmokan_least_cover(const uint8_t *listing, size_t listing_length, uint8_t *out, size_t out_length);
 
 /* ---- the same in parts, for a host that is short of memory ---- */
 
