@@ -21,7 +21,7 @@
  *                             though a length may be 0
  * Answers the number of bytes written, at least 1; the bytes of `out` behind them are as they came. Or a refusal, below 0:
  * minus (number * 100000 + line), and then `out` is as it came. docs/REFUSALS.md has the numbers: 1 to 10, of which 8 is unused,
- * 13 (a flow table goes to a state that is not stable in its column), and 17. */
+ * 13 (a flow table goes to a state that is not stable in its column), 16, which the least code alone can give, and 17. */
 extern int64_t tsurmokan_report(const uint8_t *listing, size_t listing_length, uint8_t *out, size_t out_length);
 
 /* The cover of a listing in those codes, in the Berkeley PLA form; a Moore machine's has a row for each state behind those of the listing,

@@ -20,7 +20,7 @@ fn parts(b: u64, z: u64, o: u64) -> bool
 }
 
 // Whether it meets the requirement with these blocks: it has one value on the whole first and the other on the whole second.
-fn meets(b: u64, first: u64, second: u64) -> bool
+pub fn meets(b: u64, first: u64, second: u64) -> bool
     ensures { λ r. ⌜ r ≡ met 64 (asks first second) b ⌝ }
 {
     if parts(b, first, second) {

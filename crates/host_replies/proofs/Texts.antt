@@ -1,4 +1,4 @@
--- What is written in the code of a sound listing is 01's text, within a bound, as are its lines; and a cover is withheld where 01 withholds it.
+-- What is written in a code of a sound listing is 01's text, within a bound, as are its lines; and a cover is withheld where 01 withholds it.
 use mathlib.Core.Path.{_≡_, sym, ap, _∙_}
 use mathlib.Core.Bool.{Bool, true, cond}
 use mathlib.Core.List.{List}
@@ -10,7 +10,7 @@ use lib.Seq.{take-all}
 use Rattle.rules.specs.Limits.{most-asked, most-bits, most-lines}
 use Rattle.rules.specs.Listing.{allRows}
 use Rattle.rules.specs.Requirements.{requirements, pairsAndGroups}
-use Rattle.rules.specs.Code.{coding, unmetFrom, unmet}
+use Rattle.rules.specs.Code.{Code, coded, coding, unmetFrom, unmet}
 use Rattle.rules.specs.Report.{joinedLines}
 use Rattle.rules.specs.Cover.{cover}
 use Rattle.rules.specs.Answers.{says, refuses, reportOf, coverOf, reportReply}
@@ -45,7 +45,7 @@ use Rattle.host_replies.specs.Ready.{longest}
 use Rattle.host_replies.proofs.Encodings.{Whole}
 use Rattle.host_replies.proofs.Widths.{text-is}
 
-module _ (t : Listing) (e : Encoding) (w : Whole t e) where
+module _ (t : Listing) (c : Code) (e : Encoding) (w : Whole t c e) where
   is-fair : fair t ≡ true
   is-fair = sound-fair t (w .sound)
 
@@ -59,9 +59,9 @@ module _ (t : Listing) (e : Encoding) (w : Whole t e) where
   few-first =
       omega (arith, few-asked, ap length (ap requirementsIn (take-all most-words (allFamilies t) (few-all t (w .sound .table) (w .sound .asked))) ∙ all-are t is-fair))
 
-  few-unmet : length (unmet t (w .code .bits)) ≤ most-asked
+  few-unmet : length (unmet t (c .bits)) ≤ most-asked
   unfolding unmet
-  few-unmet = omega (arith, few-asked, unmet-few 0 (t .head .states) (w .code .bits) (requirements t))
+  few-unmet = omega (arith, few-asked, unmet-few 0 (t .head .states) (c .bits) (requirements t))
 
   -- ---- the report
 
@@ -79,9 +79,9 @@ module _ (t : Listing) (e : Encoding) (w : Whole t e) where
   unfolding textLines
   report-fits = report-fit (t .head .states) (allFamilies t) e (w .sound .head .few-states) few-first (w .narrow) asked left (w .few-passes) (w .few-looks)
 
-  pub report-said : says (joinedLines (textLines Wanted.Report t e)) ≡ reportOf t (coding t)
+  pub report-said : says (joinedLines (textLines Wanted.Report t e)) ≡ reportOf t (coded c)
   unfolding textLines encodedReport reportReply
-  report-said = ap says (same-report t is-fair good (w .sound .table) (w .sound .asked) (w .code) e (w .holds)) ∙ sym (ap (reportOf t) (w .is))
+  report-said = ap says (same-report t is-fair good (w .sound .table) (w .sound .asked) c e (w .holds))
 
   -- ---- the cover
 
@@ -108,15 +108,14 @@ module _ (t : Listing) (e : Encoding) (w : Whole t e) where
   abbrev unmetFirst : ℕ
   unmetFirst = length (unmetFrom 0 (t .head .states) (take (e .width) (e .bits)) (pairsAndGroups t))
 
-  cover-as : (b : Bool) → leb 1 unmetFirst ≡ b → coverOf t (coding t) ≡ cond b (refuses Unmet 0) (says (cover t (take (e .width) (e .bits))))
+  cover-as : (b : Bool) → leb 1 unmetFirst ≡ b → coverOf t (coded c) ≡ cond b (refuses Unmet 0) (says (cover t (take (e .width) (e .bits))))
   unfolding coverOf
   cover-as b q =
-      ap (coverOf t) (w .is)
-      ∙ ap (λ (x : List ℕ). cond (leb 1 (length (unmetFrom 0 (t .head .states) x (pairsAndGroups t)))) (refuses Unmet 0) (says (cover t x))) (sym (w .holds .bits))
+      ap (λ (x : List ℕ). cond (leb 1 (length (unmetFrom 0 (t .head .states) x (pairsAndGroups t)))) (refuses Unmet 0) (says (cover t x))) (sym (w .holds .bits))
       ∙ ap (λ (x : Bool). cond x (refuses Unmet 0) (says (cover t (take (e .width) (e .bits))))) q
 
   -- by whether a pair or a group requirement is unmet
-  pub cover-said : (b : Bool) → anyUnmet (firstFamilies t) e ≡ b → cond b (refuses Unmet 0) (says (joinedLines (textLines Wanted.Cover t e))) ≡ coverOf t (coding t)
+  pub cover-said : (b : Bool) → anyUnmet (firstFamilies t) e ≡ b → cond b (refuses Unmet 0) (says (joinedLines (textLines Wanted.Cover t e))) ≡ coverOf t (coded c)
   cover-said b q = ap (λ (x : List ℕ). cond b (refuses Unmet 0) (says x)) cover-text ∙ sym (cover-as b (sym (same-judged t is-fair good e) ∙ q))
 
   -- ---- what each width buys
@@ -129,6 +128,6 @@ module _ (t : Listing) (e : Encoding) (w : Whole t e) where
   unfolding textLines
   widths-fits = widths-fit (allFamilies t) (length (firstFamilies t)) e (w .narrow) few-first
 
-  pub widths-said : t .head .width ≡ most-bits → joinedLines (textLines Wanted.Widths t e) ≡ widths t
+  pub widths-said : coding t ≡ coded c → t .head .width ≡ most-bits → joinedLines (textLines Wanted.Widths t e) ≡ widths t
   unfolding textLines encodedWidths
-  widths-said wide = text-is t e w wide
+  widths-said is wide = text-is t c e w is wide

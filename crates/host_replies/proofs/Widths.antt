@@ -52,12 +52,12 @@ unfolding coding requirements pairsAndGroups
 wide-coded t = refl
 
 -- its code is held whole
-pub whole-wide : (t : Listing) → Sound t → (e : Encoding) → e ≡ encoded (withWidth most-bits t) → Whole (withWidth most-bits t) e
+pub whole-wide : (t : Listing) → Sound t → (e : Encoding) → e ≡ encoded (withWidth most-bits t) → Whole (withWidth most-bits t) (build most-bits (t .head .states) (requirements t)) e
 whole-wide t s e h =
     let u : Listing = withWidth most-bits t in
     let w : Sound u = sound-wide t s in
     let c : Code = build most-bits (t .head .states) (requirements t) in
-    subst (Whole u) (sym (h ∙ fair-encoded u w ∙ ap (encodedAs u) (wide-coded t))) (whole-as u w c (wide-coded t))
+    subst (Whole u c) (sym (h ∙ fair-encoded u w ∙ ap (encodedAs u) (wide-coded t))) (whole-as u w c (wide-coded t))
 
 -- and its widths are the listing's own
 pub same-listing : (t : Listing) → widths (withWidth most-bits t) ≡ widths t
@@ -70,12 +70,12 @@ front : (t : Listing) → take (length (firstFamilies t)) (allFamilies t) ≡ fi
 unfolding allFamilies
 front t = take-append-seam (firstFamilies t) (dichotomyWords (dichotomiesOf t))
 
-module _ (t : Listing) (e : Encoding) (w : Whole t e) (wide : t .head .width ≡ most-bits) where
+module _ (t : Listing) (c : Code) (e : Encoding) (w : Whole t c e) (is : coding t ≡ coded c) (wide : t .head .width ≡ most-bits) where
   widest : take (e .width) (e .bits) ≡ bitsOf t most-bits
   unfolding bitsOf
   widest =
       w .holds .bits
-      ∙ sym (ap (λ (c : Code). c .bits) (was-built t (w .code) (w .is)))
+      ∙ sym (ap (λ (c : Code). c .bits) (was-built t c is))
       ∙ ap (λ (k : ℕ). build k (t .head .states) (requirements t) .bits) (ap (λ (b : Bool). cond b most-bits (t .head .width)) (ne-eqb (t .head .width) 0 (λ z. omega arith)) ∙ wide)
 
   pub text-is : encodedWidths (allFamilies t) (length (firstFamilies t)) e ≡ widths t

@@ -1,4 +1,5 @@
 -- Any bytes, read and coded once for what is wanted: which reply that is ready for, and the lines of its text.
+use mathlib.Core.Bool.{Bool, true, false, cond}
 use mathlib.Core.List.{List, []}
 use Prim.Native.Nat.{ℕ, _≤_}
 use lib.ListN.{length}
@@ -7,11 +8,13 @@ use Rattle.rules.specs.Listing.{reading}
 use Rattle.rules.specs.Report.{joinedLines}
 use Rattle.rules.specs.Answers.{Reply, says, refuses}
 use Rattle.rules.specs.Widths.{withWidth}
+use Rattle.rules.specs.Least.{smallReading}
 use Rattle.rules.specs.declared.Listing.{Listing}
 use Rattle.rules.specs.declared.Encoding.{Encoding}
 use Rattle.rules.specs.declared.Reading.{Reading}
 use Rattle.rules.specs.declared.Verdict.{Verdict}
 use Rattle.code_encoding.specs.Encode.{encoded}
+use Rattle.code_least.specs.Encode.{leastEncoded}
 use Rattle.write_texts.specs.Texts.{verdictOf, textLines}
 use Rattle.write_texts.specs.declared.Wanted.{Wanted}
 use Rattle.host_replies.specs.declared.Ready.{Ready}
@@ -21,6 +24,25 @@ unfoldable pub widthFor : Wanted → ℕ → ℕ
 widthFor Wanted.Report width = width
 widthFor Wanted.Cover width = width
 widthFor Wanted.Widths width = most-bits
+widthFor Wanted.Least width = width
+widthFor Wanted.LeastCover width = width
+
+-- what is wanted is of the least code
+unfoldable pub isLeast : Wanted → Bool
+isLeast Wanted.Report = false
+isLeast Wanted.Cover = false
+isLeast Wanted.Widths = false
+isLeast Wanted.Least = true
+isLeast Wanted.LeastCover = true
+
+-- which is that of a small machine
+unfoldable pub readingAs : Bool → List ℕ → Reading
+unfolding smallReading reading
+readingAs least s = cond least (smallReading s) (reading s)
+
+unfoldable pub encodedBy : Bool → Listing → Encoding
+unfolding leastEncoded encoded
+encodedBy least t = cond least (leastEncoded t) (encoded t)
 
 -- the reader's refusal comes first, then the encoder's, then that of what is wanted
 unfoldable pub verdictOn : Wanted → Verdict → Listing → Encoding → Verdict
@@ -32,11 +54,11 @@ verdictOn w v t e =
     ]
 
 unfoldable pub ready : Wanted → List ℕ → Ready
-unfolding widthFor verdictOn reading encoded
+unfolding widthFor isLeast readingAs encodedBy verdictOn
 ready w s =
-    let r : Reading = reading s in
+    let r : Reading = readingAs (isLeast w) s in
     let t : Listing = withWidth (widthFor w (r .listing .head .width)) (r .listing) in
-    let e : Encoding = encoded t in
+    let e : Encoding = encodedBy (isLeast w) t in
     record { wanted = w; verdict = verdictOn w (r .verdict) t e; listing = t; encoding = e }
 
 -- the lines of the text, of any such value; none where it is refused

@@ -1,13 +1,15 @@
-// What is said of any bytes: the report, the cover or what each width buys, whole or in parts, or a refusal with its line.
+// What is said of any bytes: the report, the cover or what each width buys, or the report or the cover of the least code, whole or in parts, or a refusal with
+// its line.
 ghost use mathlib.Core.Path.{_≡_};
 ghost use lib.Dec.{ltb};
 ghost use lib.ListN.{length};
 ghost use Rattle.rules.specs.Report.{joinedLines};
 ghost use Rattle.write_parts.specs.Parts.{addedAll};
-ghost use Rattle.host_replies.specs.Ready.{widthFor, verdictOn, ready, linesOf, replyOf, Few};
+ghost use Rattle.host_replies.specs.Ready.{isLeast, readingAs, encodedBy, widthFor, verdictOn, ready, linesOf, replyOf, Few};
 ghost use Rattle.host_replies.specs.Saying.{saying, sayingPart, replyTo};
 use rules::Encoding;
 use rules::Listing;
+use rules::Reading;
 use rules::Verdict;
 use write_parts::Part;
 use write_texts::Wanted;
@@ -37,7 +39,42 @@ fn width_for(wanted: Wanted, width: usize) -> usize
         Wanted::Report => width,
         Wanted::Cover => width,
         Wanted::Widths => rules::MOST_BITS,
+        Wanted::Least => width,
+        Wanted::LeastCover => width,
     }
+}
+
+// Whether what is wanted is of the least code.
+fn is_least(wanted: Wanted) -> bool
+    ensures { λ r. ⌜ r ≡ isLeast wanted ⌝ }
+{
+    match wanted {
+        Wanted::Report => false,
+        Wanted::Cover => false,
+        Wanted::Widths => false,
+        Wanted::Least => true,
+        Wanted::LeastCover => true,
+    }
+}
+
+// Any bytes, read as a listing, or as that of a small machine.
+fn read_as(least: bool, listing: &[u8]) -> Reading
+    ensures { λ r. ⌜ r ≡ readingAs least (now (listing .entry)) ⌝ }
+{
+    if least {
+        return read_listing::read_small(listing);
+    }
+    read_listing::read_listing(listing)
+}
+
+// The code of a listing: the least, or the one that is built.
+fn encode_by(least: bool, t: Listing) -> Encoding
+    ensures { λ r. ⌜ r ≡ encodedBy least t ⌝ }
+{
+    if least {
+        return code_least::encode_least(t);
+    }
+    code_building::encode(t)
 }
 
 // Whether what is wanted is refused: the reader's refusal comes first, then the encoder's, and then, of a cover, 9.
@@ -60,12 +97,13 @@ fn verdict_on(wanted: Wanted, read: Verdict, t: Listing, e: Encoding) -> Verdict
 pub fn prepare(wanted: Wanted, listing: &[u8]) -> Ready
     ensures { λ r. ⌜ r ≡ ready wanted (now (listing .entry)) ⌝ }
 {
-    let read = read_listing::read_listing(listing);
+    let least = is_least(wanted);
+    let read = read_as(least, listing);
     let said = read.verdict;
     let mut t = read.listing;
     let width = width_for(wanted, t.head.width);
     t.head.width = width;
-    let e = code_building::encode(t);
+    let e = encode_by(least, t);
     let verdict = verdict_on(wanted, said, t, e);
     Ready {
         wanted,

@@ -91,6 +91,15 @@ unfoldable pub outputsVerdict : ℕ → Head → ℕ → Verdict
 unfolding complete
 outputsVerdict k h given = cond (complete h given) Verdict.Accepted (Verdict.Refused NoOutputs k)
 
+-- how many states a line names; none where it gives no head
+unfoldable pub statesSaid : Said → ℕ
+statesSaid (Said.Head h) = h .states
+statesSaid (Said.Row r) = 0
+statesSaid (Said.Dichotomy d) = 0
+statesSaid (Said.Outputs s p) = 0
+statesSaid Said.End = 0
+statesSaid (Said.Refused r) = 0
+
 -- ---- a flow table
 
 -- the listing of a flow table: its head, and the dichotomies that were read

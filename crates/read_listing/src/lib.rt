@@ -2,9 +2,14 @@
 mod says;
 
 ghost use mathlib.Core.Path.{_≡_};
+ghost use mathlib.Core.Bool.{_&&_};
 ghost use Prim.Native.Nat.{_<_};
+ghost use lib.Dec.{leb};
+ghost use lib.ListN.{length};
+ghost use Rattle.rules.specs.Limits.{most-bytes};
 ghost use Rattle.rules.specs.Text.{linesOf};
 ghost use Rattle.rules.specs.FlowLines.{flowHead};
+ghost use Rattle.rules.specs.Least.{beginsLarge, smallReading};
 ghost use Rattle.rules.specs.Listing.{blank, refused, complete, ended, unended, readLines, readAll, checked, reading, orElse};
 ghost use Rattle.read_listing.specs.Says.{outputsVerdict, readingOf};
 use read_flow::Flow;
@@ -233,4 +238,38 @@ pub fn read_listing(bytes: &[u8]) -> Reading
         return refuse(Refusal::Limit, 0);
     }
     read_all(bytes)
+}
+
+// Whether the first line, which LF ends, is a head line that names more states than a small machine has.
+fn begins_large(s: &[u8]) -> bool
+    ensures { λ r. ⌜ r ≡ beginsLarge (linesOf (now (s .entry))) ⌝ }
+{
+    let at: usize = 0;
+    let end = read_pieces::cut(s, 0, b'\n');
+    if end < s.len() {
+        let t = blank_listing();
+        let said = says::line_said(1, t.head, t.rows, t.dichotomies, t.given, &s[at..end]);
+        return rules::MOST_SMALL < says::states_said(said);
+    }
+    false
+}
+
+// Whether the bytes are no more than a listing may have, and begin so.
+fn is_large(s: &[u8]) -> bool
+    ensures { λ r. ⌜ r ≡ (leb (length (now (s .entry))) most-bytes && beginsLarge (linesOf (now (s .entry)))) ⌝ }
+{
+    if rules::MOST_BYTES < s.len() {
+        return false;
+    }
+    begins_large(s)
+}
+
+// Any bytes at all, as the listing of a small machine: more states are a fault of line 1.
+pub fn read_small(bytes: &[u8]) -> Reading
+    ensures { λ r. ⌜ r ≡ smallReading (now (bytes .entry)) ⌝ }
+{
+    if is_large(bytes) {
+        return refuse(Refusal::Limit, 1);
+    }
+    read_listing(bytes)
 }

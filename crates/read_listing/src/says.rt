@@ -4,7 +4,7 @@ ghost use Rattle.rules.specs.Lines.{headLine, rowLine, dichotomyLine, outputsLi
 ghost use Rattle.rules.specs.Listing.{placed};
 ghost use Rattle.rules.specs.declared.Mark.the-variants.{Ou};
 ghost use Rattle.read_listing.specs.Says.{headReason, rowReason, dichotomyReason, outputsReason, endReason};
-ghost use Rattle.read_listing.specs.Says.{headSays, rowSays, dichotomySays, outputsSays, endSays, placedSays, lineSays};
+ghost use Rattle.read_listing.specs.Says.{headSays, rowSays, dichotomySays, outputsSays, endSays, placedSays, lineSays, statesSaid};
 use rules::DichotomyLine;
 use rules::EndLine;
 use rules::Head;
@@ -178,4 +178,18 @@ pub fn line_said(k: usize, h: Head, rows: usize, dichotomies: usize, given: u64,
         return Said::Refused(Refusal::Place);
     }
     placed_said(mark, k, h, rows, dichotomies, l)
+}
+
+// How many states a line names: those of the head; none where it gives no head.
+pub fn states_said(said: Said) -> usize
+    ensures { λ r. ⌜ r ≡ statesSaid said ⌝ }
+{
+    match said {
+        Said::Head(h) => h.states,
+        Said::Row(_) => 0,
+        Said::Dichotomy(_) => 0,
+        Said::Outputs(_, _) => 0,
+        Said::End => 0,
+        Said::Refused(_) => 0,
+    }
 }

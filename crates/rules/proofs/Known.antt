@@ -18,6 +18,7 @@ use Rattle.rules.specs.Looks.{looksAt}
 use Rattle.rules.specs.Cover.{face, faceAt}
 use Rattle.rules.specs.Answers.{reportReply, coverReply, printed}
 use Rattle.rules.specs.Widths.{widthsReply}
+use Rattle.rules.specs.Least.{leastReply, leastCoverReply}
 use Rattle.rules.specs.declared.Head.{Head}
 use Rattle.rules.specs.declared.Requirement.{Requirement}
 use Rattle.rules.specs.declared.HeadLine.{HeadLine}
@@ -60,6 +61,9 @@ pub data Case : Type 0 where
   buys : String → String → Case
   -- the dichotomies of a listing, each as in `DI`
   gives : String → List String → Case
+  -- the report of a small machine's least code, and the cover in it
+  leasts : String → String → Case
+  least-covers : String → String → Case
   -- a first line, and the numbers read
   reads : String → Head → Case
   -- some states' codes, a group as in `PT`, and its face; all that the group asks is met
@@ -144,6 +148,10 @@ cases =
     ∷ covers table-iii ".i 6\n.o 5\n.type fd\n.p 0\n.e\n"
     ∷ gives "MC 3 1 1 0\nFT 0 -\nFT - 1\nFT 2 1\nEN\n" ("+.-" ∷ [])
     ∷ reports "MC 3 1 1 0\nFT 0 -\nFT - 2\nFT 1 -\nEN\n" "NO 13 3\n"
+    ∷ leasts p1 "CT 2 5 0 0 0\nSC 0 00\nSC 1 01\nSC 2 10\nBY 0 1\nBY 1 0\nBY 2 0\nBY 3 0\nBY 4 1\nEN\n"
+    ∷ least-covers p1 ".i 3\n.o 3\n.type fd\n.p 1\n00- 101\n.e\n"
+    ∷ leasts p3 "CT 0 0 0 0 0\nSC 0 -\nEN\n"
+    ∷ leasts "MC 7 1 1 0\nXX\n" "NO 2 1\n"
     ∷ []
 
 -- ---- what a case states
@@ -153,6 +161,8 @@ Holds (reports listing text) = printed (reportReply (bytes listing)) ≡ bytes t
 Holds (covers listing text) = printed (coverReply (bytes listing)) ≡ bytes text
 Holds (buys listing text) = printed (widthsReply (bytes listing)) ≡ bytes text
 Holds (gives listing rs) = dichotomiesOf (reading (bytes listing) .listing) ≡ map asked rs
+Holds (leasts listing text) = printed (leastReply (bytes listing)) ≡ bytes text
+Holds (least-covers listing text) = printed (leastCoverReply (bytes listing)) ≡ bytes text
 Holds (reads line head) = headLine (head .moore) (bytes line) ≡ HeadLine.Read head
 Holds (faces codes group text) =
     (face (length codes) (bitsOf codes) (setOf one (bytes group)) ≡ bytes text)
@@ -177,11 +187,13 @@ sameAsked (x ∷ xs) [] = false
 sameAsked (x ∷ xs) (y ∷ ys) = eqb (x .first) (y .first) && eqb (x .second) (y .second) && sameAsked xs ys
 
 right : Case → Bool
-unfolding same reading sameAsked reportReply coverReply widthsReply printed headLine sameHead faceAt allMet groupAsks looksOf metByCode bitsIn setOf
+unfolding same reading sameAsked reportReply coverReply widthsReply leastReply leastCoverReply printed headLine sameHead faceAt allMet groupAsks looksOf metByCode bitsIn setOf
 right (reports listing text) = same (printed (reportReply (bytes listing))) (bytes text)
 right (covers listing text) = same (printed (coverReply (bytes listing))) (bytes text)
 right (buys listing text) = same (printed (widthsReply (bytes listing))) (bytes text)
 right (gives listing rs) = sameAsked (dichotomiesOf (reading (bytes listing) .listing)) (map asked rs)
+right (leasts listing text) = same (printed (leastReply (bytes listing))) (bytes text)
+right (least-covers listing text) = same (printed (leastCoverReply (bytes listing))) (bytes text)
 right (reads line head) = sameHead (headLine (head .moore) (bytes line)) head
 right (faces codes group text) =
     same (face (length codes) (bitsOf codes) (setOf one (bytes group))) (bytes text)
@@ -251,6 +263,8 @@ right-holds (reports listing text) e = same-eq _ _ e
 right-holds (covers listing text) e = same-eq _ _ e
 right-holds (buys listing text) e = same-eq _ _ e
 right-holds (gives listing rs) e = asked-eq _ _ e
+right-holds (leasts listing text) e = same-eq _ _ e
+right-holds (least-covers listing text) e = same-eq _ _ e
 right-holds (reads line head) e = head-eq _ _ e
 right-holds (faces codes group text) e =
     let a : Bool = same (face (length codes) (bitsOf codes) (setOf one (bytes group))) (bytes text) in

@@ -35,11 +35,15 @@ pub mod ReportLines
 pub mod Printed
 pub mod CoverLines
 pub mod Written
+pub mod Codes
+pub mod Columns
+pub mod Least
 pub mod Agreeing
 pub mod Moore
 pub mod Reported
 pub mod FlowGiven
 pub mod Races
+pub mod LeastReplies
 pub mod Parts
 pub mod Wider
 pub mod WiderReports

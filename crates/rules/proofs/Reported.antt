@@ -276,7 +276,7 @@ module _ (t : Listing) (c : Code) where
           report-has t c (unText r) (un-long r) .1
           (among-unmets (unText r) (Memᴰ·map (λ r. unmetLine (record { 0 = r })) (unmet-listed (t .head .states) (c .bits) (requirements t) r .1 h)))
 
-  report-tells : Tells (t .head .states) (c .bits) (requirements t) (report t c)
+  pub report-tells : Tells (t .head .states) (c .bits) (requirements t) (report t c)
   report-tells = record { states = tells-state; by = tells-by; un = tells-un; either = either; not-both = not-both }
     where
       either : (r : ℕ) → r < length (requirements t) → ((k : ℕ) × HasLine (report t c) (byText r k)) ⊎ HasLine (report t c) (unText r)
@@ -296,7 +296,7 @@ module _ (t : Listing) (c : Code) where
 replied : Reading → Verdict → Reply
 replied r v = elim v [ Verdict.Accepted ↦ reportOf (r .listing) (coding (r .listing)) | Verdict.Refused f k ↦ refuses f k ]
 
-of-coding : (t : Listing) (g : Coding) (text : List ℕ) → reportOf t g ≡ says text → (c : Code) × (g ≡ coded c) × (text ≡ report t c)
+pub of-coding : (t : Listing) (g : Coding) (text : List ℕ) → reportOf t g ≡ says text → (c : Code) × (g ≡ coded c) × (text ≡ report t c)
 unfolding report
 of-coding t (coded c) text e = (c, refl, sym (says-same (report t c) text e))
 of-coding t (uncoded f) text e = absurd (says-not f 0 text e)

@@ -214,7 +214,7 @@ no-code : (t : Listing) (f : Refusal) → coverOf t (uncoded f) ≡ refuses f 0
 unfolding coverOf
 no-code t f = refl
 
-of-coding : (t : Listing) (g : Coding) (text : List ℕ) → Sound t → conflict (rowsOf t) ≡ Verdict.Accepted → coverOf t g ≡ says text → (c : Code) × (g ≡ coded c) × CoverOf t (c .bits) text
+pub of-coding : (t : Listing) (g : Coding) (text : List ℕ) → Sound t → conflict (rowsOf t) ≡ Verdict.Accepted → coverOf t g ≡ says text → (c : Code) × (g ≡ coded c) × CoverOf t (c .bits) text
 of-coding t (coded c) text sound apart e = (c, refl, of-code t c text sound apart e)
 of-coding t (uncoded f) text sound apart e = absurd (says-not f 0 text (sym (no-code t f) ∙ e))
 

@@ -14,6 +14,7 @@ pub mod Report
 pub mod Cover
 pub mod Meaning
 pub mod Answers
+pub mod Least
 pub mod Parts
 pub mod Widths
 pub mod Trial

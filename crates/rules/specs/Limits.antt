@@ -38,3 +38,13 @@ most-bytes = 65536
 -- the requirements of a trial record
 abbrev pub most-trial : ℕ
 most-trial = 256
+
+-- a small machine, of which the least code is found (02, request 11): its states, its requirements, and the bits of the code
+abbrev pub most-small : ℕ
+most-small = 6
+
+abbrev pub most-small-asked : ℕ
+most-small-asked = 32
+
+abbrev pub most-small-bits : ℕ
+most-small-bits = 5

@@ -1,9 +1,9 @@
--- 01, "Refusal numbers", with 13 and 17 of 02, requests 05 and 13: the number of each refusal, and what a C host gets for one. 8 is unused: no bit can meet nothing that was unmet
+-- 01, "Refusal numbers", with 13, 16 and 17 of 02, requests 05, 11 and 13: the number of each refusal, and what a C host gets for one. 8 is unused: no bit can meet nothing that was unmet
 -- (02, request 06).
 use Prim.Native.Nat.{ℕ, _+_, _*_}
 use lib.IntN.{ℤ, pos, negℤ}
 use Rattle.rules.specs.declared.Refusal.{Refusal}
-use Rattle.rules.specs.declared.Refusal.the-variants.{BadLine, Limit, Place, EmptyGroup, NextState, Conflict, TooWide, Unmet, NoRoom, BadCall, Unstable, NoOutputs}
+use Rattle.rules.specs.declared.Refusal.the-variants.{BadLine, Limit, Place, EmptyGroup, NextState, Conflict, TooWide, Unmet, NoRoom, BadCall, Unstable, NoShortCode, NoOutputs}
 
 abbrev pub number : Refusal → ℕ
 number BadLine = 1
@@ -17,6 +17,7 @@ number Unmet = 9
 number NoRoom = 10
 number BadCall = 11
 number Unstable = 13
+number NoShortCode = 16
 number NoOutputs = 17
 
 -- minus (number × 100,000 + line)

@@ -32,6 +32,13 @@ pub const MOST_BYTES: usize = 65536;
 
 pub const MOST_TRIAL: usize = 256;
 
+// The limits of a small machine, of which the least code is found: its states, its requirements, and the bits of the code.
+pub const MOST_SMALL: usize = 6;
+
+pub const MOST_SMALL_ASKED: usize = 32;
+
+pub const MOST_SMALL_BITS: usize = 5;
+
 // A state's number, from 0. Moves and gains take it, a C host's too.
 #[repr(C)]
 pub struct StateNumber(pub usize);
@@ -104,7 +111,7 @@ pub struct Listing {
     pub given: u64,
 }
 
-// Why a call is refused, in the order of their numbers, of which 8 is unused and 12 not yet given.
+// Why a call is refused, in the order of their numbers, of which 8 is unused and 12 is not given yet.
 pub enum Refusal {
     BadLine,
     Limit,
@@ -117,6 +124,7 @@ pub enum Refusal {
     NoRoom,
     BadCall,
     Unstable,
+    NoShortCode,
     NoOutputs,
 }
 
@@ -137,6 +145,7 @@ impl Refusal {
             Refusal::NoRoom => 10,
             Refusal::BadCall => 11,
             Refusal::Unstable => 13,
+            Refusal::NoShortCode => 16,
             Refusal::NoOutputs => 17,
         }
     }

@@ -5,6 +5,7 @@ mod records;
 ghost use mathlib.Core.Path.{_≡_};
 ghost use Rattle.rules.specs.Answers.{reportReply, coverReply, answered};
 ghost use Rattle.rules.specs.Parts.{answeredPart};
+ghost use Rattle.rules.specs.Least.{leastReply, leastCoverReply};
 ghost use Rattle.rules.specs.Widths.{widthsReply};
 
 // The report.
@@ -29,6 +30,22 @@ pub extern "C" fn tsurmokan_widths(listing: &[u8], out: &mut [u8]) -> i64
     ensures { λ r. ⌜ (r, now (out .exit)) ≡ answered (widthsReply (now (listing .entry))) (now (out .entry)) ⌝ }
 {
     numbers::answer(write_texts::Wanted::Widths, listing, out)
+}
+
+// The report of the least code of a small machine.
+#[no_mangle]
+pub extern "C" fn tsurmokan_least(listing: &[u8], out: &mut [u8]) -> i64
+    ensures { λ r. ⌜ (r, now (out .exit)) ≡ answered (leastReply (now (listing .entry))) (now (out .entry)) ⌝ }
+{
+    numbers::answer(write_texts::Wanted::Least, listing, out)
+}
+
+// The cover in that code.
+#[no_mangle]
+pub extern "C" fn tsurmokan_least_cover(listing: &[u8], out: &mut [u8]) -> i64
+    ensures { λ r. ⌜ (r, now (out .exit)) ≡ answered (leastCoverReply (now (listing .entry))) (now (out .entry)) ⌝ }
+{
+    numbers::answer(write_texts::Wanted::LeastCover, listing, out)
 }
 
 // The whole lines of the report that fit, behind the bytes of it that the host has already: 0 where there is no more.

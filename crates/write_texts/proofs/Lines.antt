@@ -28,3 +28,5 @@ unfolding textLines
 text-pieces Wanted.Report t e = report-pieces (t .head .states) (allFamilies t) e
 text-pieces Wanted.Cover t e = cover-pieces t (take (e .width) (e .bits))
 text-pieces Wanted.Widths t e = widths-pieces (allFamilies t) (length (firstFamilies t)) e
+text-pieces Wanted.Least t e = report-pieces (t .head .states) (allFamilies t) e
+text-pieces Wanted.LeastCover t e = cover-pieces t (take (e .width) (e .bits))

@@ -25,9 +25,13 @@ unfolding coverVerdict
 verdictOf Wanted.Report t e = Verdict.Accepted
 verdictOf Wanted.Cover t e = coverVerdict t e
 verdictOf Wanted.Widths t e = Verdict.Accepted
+verdictOf Wanted.Least t e = Verdict.Accepted
+verdictOf Wanted.LeastCover t e = coverVerdict t e
 
 unfoldable pub textLines : Wanted → Listing → Encoding → List (List ℕ)
 unfolding reportLines widthLines linesWithin firstFamilies allFamilies
 textLines Wanted.Report t e = reportLines (t .head .states) (allFamilies t) e
 textLines Wanted.Cover t e = linesWithin t (take (e .width) (e .bits))
 textLines Wanted.Widths t e = widthLines (allFamilies t) (length (firstFamilies t)) e
+textLines Wanted.Least t e = reportLines (t .head .states) (allFamilies t) e
+textLines Wanted.LeastCover t e = linesWithin t (take (e .width) (e .bits))

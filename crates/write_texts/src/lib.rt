@@ -1,4 +1,5 @@
-// What can be wanted of a listing and its code: the report, the cover or what each width buys, as lines; and whether it is to be had.
+// What can be wanted of a listing and its code: the report, the cover or what each width buys, as lines; and whether it is to be had. The least code of a small
+// machine has the same report and the same cover as any other code.
 ghost use mathlib.Core.Path.{_≡_};
 ghost use Rattle.write_parts.specs.Parts.{addedAll};
 ghost use Rattle.write_texts.specs.Texts.{coverVerdict, verdictOf, textLines};
@@ -13,6 +14,8 @@ pub enum Wanted {
     Report,
     Cover,
     Widths,
+    Least,
+    LeastCover,
 }
 
 // A cover is refused 9 where a pair or group requirement is unmet.
@@ -35,6 +38,8 @@ pub fn verdict_of(wanted: Wanted, t: Listing, e: Encoding) -> Verdict
         Wanted::Report => Verdict::Accepted,
         Wanted::Cover => cover_verdict(t, e),
         Wanted::Widths => Verdict::Accepted,
+        Wanted::Least => Verdict::Accepted,
+        Wanted::LeastCover => cover_verdict(t, e),
     }
 }
 
@@ -45,6 +50,14 @@ fn add_report(t: Listing, e: Encoding, part: Part, out: &mut [u8]) -> Part
     let mut fs = [0u64; code_drawing::ALL_WORDS];
     let words = code_drawing::draw_all(t, &mut fs);
     write_report::add_report(out, part, t.head.states, e, &fs[..words])
+}
+
+// The cover.
+fn add_cover(t: Listing, e: Encoding, part: Part, out: &mut [u8]) -> Part
+    ensures { λ r. ⌜ (r, now (out .exit)) ≡ addedAll (textLines Wanted.Cover t e) (part, now (out .entry)) ⌝ }
+{
+    let bits = e.bits;
+    write_cover::add_cover(out, part, t, e.width, bits)
 }
 
 // What each width buys. Of the families those of the pairs and the groups stand in front.
@@ -63,10 +76,9 @@ pub fn add_lines(wanted: Wanted, t: Listing, e: Encoding, part: Part, out: &mut 
 {
     match wanted {
         Wanted::Report => add_report(t, e, part, out),
-        Wanted::Cover => {
-            let bits = e.bits;
-            write_cover::add_cover(out, part, t, e.width, bits)
-        }
+        Wanted::Cover => add_cover(t, e, part, out),
         Wanted::Widths => add_widths(t, e, part, out),
+        Wanted::Least => add_report(t, e, part, out),
+        Wanted::LeastCover => add_cover(t, e, part, out),
     }
 }

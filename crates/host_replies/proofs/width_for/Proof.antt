@@ -15,19 +15,48 @@ enum-told-2 c = search needs
 enum-told-3 : tie.Need-enum-told-3
 enum-told-3 c = search needs
 
+enum-told-4 : tie.Need-enum-told-4
+enum-told-4 c = search needs
+
+enum-told-5 : tie.Need-enum-told-5
+enum-told-5 c = search needs
+
 returns : tie.Need-returns
 unfolding widthFor
-returns c = sym (ap (λ (w : Wanted). widthFor w (c .before .before .args .width)) (c .enum-told .given .1))
+returns c =
+    sym (ap (λ (w : Wanted). widthFor w (c .before .before .args .width)) (c .enum-told .given .1))
 
 returns-2 : tie.Need-returns-2
 unfolding widthFor
-returns-2 c = sym (ap (λ (w : Wanted). widthFor w (c .before .before .args .width)) (c .enum-told2 .given .1))
+returns-2 c =
+    sym (ap (λ (w : Wanted). widthFor w (c .before .before .args .width)) (c .enum-told2 .given .1))
 
 returns-3 : tie.Need-returns-3
 unfolding widthFor
-returns-3 c = sym (ap (λ (w : Wanted). widthFor w (c .before .before .args .width)) (c .enum-told3 .given .1))
+returns-3 c =
+    sym (ap (λ (w : Wanted). widthFor w (c .before .before .args .width)) (c .enum-told3 .given .1))
+
+returns-4 : tie.Need-returns-4
+unfolding widthFor
+returns-4 c =
+    sym (ap (λ (w : Wanted). widthFor w (c .before .before .args .width)) (c .enum-told4 .given .1))
+
+returns-5 : tie.Need-returns-5
+unfolding widthFor
+returns-5 c =
+    sym (ap (λ (w : Wanted). widthFor w (c .before .before .args .width)) (c .enum-told5 .given .1))
 
 pub width-for-spec : {M : Type 1} → statement M
 width-for-spec =
     tie.close
-    (tie.spec enum-told enum-told-2 enum-told-3 returns returns-2 returns-3)
+    (tie.spec
+    enum-told
+    enum-told-2
+    enum-told-3
+    enum-told-4
+    enum-told-5
+    returns
+    returns-2
+    returns-3
+    returns-4
+    returns-5)

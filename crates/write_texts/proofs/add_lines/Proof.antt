@@ -1,4 +1,4 @@
--- `write_texts::add_lines` meets its contract, by what is wanted.
+-- `write_texts::add_lines` meets its contract, by what is wanted: a report or a cover is written alike in the least code.
 use mathlib.Core.Path.{sym, ap, _∙_}
 use borrow.Author.Needs.{needs}
 use Rattle.write_parts.specs.Parts.{addedAll}
@@ -25,10 +25,21 @@ enum-told-3 c = search needs
 add-widths-requires : tie.Need-add-widths-requires
 add-widths-requires c κs = search needs
 
+enum-told-4 : tie.Need-enum-told-4
+enum-told-4 c = search needs
+
+add-report-requires-2 : tie.Need-add-report-requires-2
+add-report-requires-2 c κs = search needs
+
+enum-told-5 : tie.Need-enum-told-5
+enum-told-5 c = search needs
+
+add-cover-requires-2 : tie.Need-add-cover-requires-2
+add-cover-requires-2 c κs = search needs
+
 same-length : tie.Need-same-length
 same-length c = search needs
 
--- what is wanted is what the branch writes
 returns : tie.Need-returns
 returns c =
     let a = c .before .before .before .before .before .before .before .args in
@@ -39,11 +50,10 @@ same-length-2 : tie.Need-same-length-2
 same-length-2 c = search needs
 
 returns-2 : tie.Need-returns-2
-unfolding textLines
 returns-2 c =
-    let a = c .before .before .before .before .before .before .before .before .args in
+    let a = c .before .before .before .before .before .before .before .args in
     c .before .before .add-cover .ensures
-    ∙ sym (ap (λ (w : Wanted). addedAll (textLines w (a .t) (a .e)) (a .part, a .out .now)) (c .before .before .before .before .before .enum-told2 .given .1))
+    ∙ sym (ap (λ (w : Wanted). addedAll (textLines w (a .t) (a .e)) (a .part, a .out .now)) (c .before .before .before .before .enum-told2 .given .1))
 
 same-length-3 : tie.Need-same-length-3
 same-length-3 c = search needs
@@ -53,6 +63,26 @@ returns-3 c =
     let a = c .before .before .before .before .before .before .before .args in
     c .before .before .add-widths .ensures
     ∙ sym (ap (λ (w : Wanted). addedAll (textLines w (a .t) (a .e)) (a .part, a .out .now)) (c .before .before .before .before .enum-told3 .given .1))
+
+same-length-4 : tie.Need-same-length-4
+same-length-4 c = search needs
+
+returns-4 : tie.Need-returns-4
+unfolding textLines
+returns-4 c =
+    let a = c .before .before .before .before .before .before .before .args in
+    c .before .before .add-report2 .ensures
+    ∙ sym (ap (λ (w : Wanted). addedAll (textLines w (a .t) (a .e)) (a .part, a .out .now)) (c .before .before .before .before .enum-told4 .given .1))
+
+same-length-5 : tie.Need-same-length-5
+same-length-5 c = search needs
+
+returns-5 : tie.Need-returns-5
+unfolding textLines
+returns-5 c =
+    let a = c .before .before .before .before .before .before .before .args in
+    c .before .before .add-cover2 .ensures
+    ∙ sym (ap (λ (w : Wanted). addedAll (textLines w (a .t) (a .e)) (a .part, a .out .now)) (c .before .before .before .before .enum-told5 .given .1))
 
 pub add-lines-spec : {M : Type 1} → statement M
 add-lines-spec =
@@ -64,9 +94,17 @@ add-lines-spec =
     add-cover-requires
     enum-told-3
     add-widths-requires
+    enum-told-4
+    add-report-requires-2
+    enum-told-5
+    add-cover-requires-2
     same-length
     returns
     same-length-2
     returns-2
     same-length-3
-    returns-3)
+    returns-3
+    same-length-4
+    returns-4
+    same-length-5
+    returns-5)

@@ -18,9 +18,20 @@ cover-verdict-requires c κs = search needs
 enum-told-3 : tie.Need-enum-told-3
 enum-told-3 c = search needs
 
+enum-told-4 : tie.Need-enum-told-4
+enum-told-4 c = search needs
+
+enum-told-5 : tie.Need-enum-told-5
+enum-told-5 c = search needs
+
+cover-verdict-requires-2 : tie.Need-cover-verdict-requires-2
+cover-verdict-requires-2 c κs = search needs
+
 returns : tie.Need-returns
 unfolding verdictOf
-returns c = let a = c .before .before .args in sym (ap (λ (w : Wanted). verdictOf w (a .t) (a .e)) (c .enum-told .given .1))
+returns c =
+    let a = c .before .before .args in
+    sym (ap (λ (w : Wanted). verdictOf w (a .t) (a .e)) (c .enum-told .given .1))
 
 returns-2 : tie.Need-returns-2
 unfolding verdictOf
@@ -30,9 +41,35 @@ returns-2 c =
 
 returns-3 : tie.Need-returns-3
 unfolding verdictOf
-returns-3 c = let a = c .before .before .args in sym (ap (λ (w : Wanted). verdictOf w (a .t) (a .e)) (c .enum-told3 .given .1))
+returns-3 c =
+    let a = c .before .before .args in
+    sym (ap (λ (w : Wanted). verdictOf w (a .t) (a .e)) (c .enum-told3 .given .1))
+
+returns-4 : tie.Need-returns-4
+unfolding verdictOf
+returns-4 c =
+    let a = c .before .before .args in
+    sym (ap (λ (w : Wanted). verdictOf w (a .t) (a .e)) (c .enum-told4 .given .1))
+
+returns-5 : tie.Need-returns-5
+unfolding verdictOf
+returns-5 c =
+    let a = c .before .before .before .args in
+    c .cover-verdict2 .ensures ∙ sym (ap (λ (w : Wanted). verdictOf w (a .t) (a .e)) (c .before .enum-told5 .given .1))
 
 pub verdict-of-spec : {M : Type 1} → statement M
 verdict-of-spec =
     tie.close
-    (tie.spec enum-told enum-told-2 cover-verdict-requires enum-told-3 returns returns-2 returns-3)
+    (tie.spec
+    enum-told
+    enum-told-2
+    cover-verdict-requires
+    enum-told-3
+    enum-told-4
+    enum-told-5
+    cover-verdict-requires-2
+    returns
+    returns-2
+    returns-3
+    returns-4
+    returns-5)

@@ -1,0 +1,61 @@
+-- `host_replies::is_least` meets its contract, by what is wanted.
+use mathlib.Core.Path.{sym, ap}
+use borrow.Author.Needs.{needs}
+use Rattle.host_replies.specs.Ready.{isLeast}
+use Rattle.host_replies.proofs.is_least.Statement.{statement}
+use Rattle.host_replies.proofs.is_least.Tie as tie
+
+enum-told : tie.Need-enum-told
+enum-told c = search needs
+
+enum-told-2 : tie.Need-enum-told-2
+enum-told-2 c = search needs
+
+enum-told-3 : tie.Need-enum-told-3
+enum-told-3 c = search needs
+
+enum-told-4 : tie.Need-enum-told-4
+enum-told-4 c = search needs
+
+enum-told-5 : tie.Need-enum-told-5
+enum-told-5 c = search needs
+
+returns : tie.Need-returns
+unfolding isLeast
+returns c =
+    sym (ap isLeast (c .enum-told .given .1))
+
+returns-2 : tie.Need-returns-2
+unfolding isLeast
+returns-2 c =
+    sym (ap isLeast (c .enum-told2 .given .1))
+
+returns-3 : tie.Need-returns-3
+unfolding isLeast
+returns-3 c =
+    sym (ap isLeast (c .enum-told3 .given .1))
+
+returns-4 : tie.Need-returns-4
+unfolding isLeast
+returns-4 c =
+    sym (ap isLeast (c .enum-told4 .given .1))
+
+returns-5 : tie.Need-returns-5
+unfolding isLeast
+returns-5 c =
+    sym (ap isLeast (c .enum-told5 .given .1))
+
+pub is-least-spec : {M : Type 1} → statement M
+is-least-spec =
+    tie.close
+    (tie.spec
+    enum-told
+    enum-told-2
+    enum-told-3
+    enum-told-4
+    enum-told-5
+    returns
+    returns-2
+    returns-3
+    returns-4
+    returns-5)
