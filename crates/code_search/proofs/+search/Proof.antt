@@ -104,9 +104,9 @@ search-same-length : (t : ℕ) → search-lts.Need-same-length (without-of-reads
 search-same-length t c =
     let q = c .before .before .before in
     let l = q .before .before .before .before .before in
-    length-set (withRest (l .loop .columns) (q .search .last .1 .1 .1 .0)) 0 (l .loop .v)
-    ∙ with-length (l .loop .columns) (q .search .last .1 .1 .1 .0) (some-place t l) (q .search .kept .1 .1 .1 .0)
-    ∙ ap length (l .loop .inv .0)
+    simp length-set
+    (with-length (l .loop .columns) (q .search .last .1 .1 .1 .0) (some-place t l) (q .search .kept .1 .1 .1 .0)
+    ∙ ap length (l .loop .inv .0))
 
 search-returns-2 : (t : ℕ) → search-lts.Need-returns-2 (without-of-reads.Asked, without-of-reads.Learnt, search-below t, search′.Post) (search-at t) search′.Post search-Inv-loop search-μ-loop
 search-returns-2 t c =

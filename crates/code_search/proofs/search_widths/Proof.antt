@@ -29,7 +29,7 @@ slice-relend-prefix-search c = search needs
 slice-aggregate-search : tie.Need-slice-aggregate-search Inv-loop μ-loop
 slice-aggregate-search c =
     let i = c .before in
-    sym (length-take-le (i .before .loop .w) (i .before .loop .columns) (i .loop-test .taken))
+    sym (length-take-le (i .before .loop .w) (i .before .loop .columns) (omega (arith, i .loop-test .taken)))
 
 search-requires : tie.Need-search-requires Inv-loop μ-loop
 search-requires c κs = search needs
@@ -43,7 +43,7 @@ returns c =
     let i = q .before .before in
     let l = i .before in
     let a = l .before .before .before .args in
-    width-found (a .met .now) (l .loop .columns) (a .left) (l .loop .w) (i .loop-test .taken) (q .search .result) (q .search .last .1 .1 .1 .0) (c .if1 .taken) (l .loop .inv .2) (q .search .ensures)
+    width-found (a .met .now) (l .loop .columns) (a .left) (l .loop .w) (omega (arith, i .loop-test .taken)) (q .search .result) (q .search .last .1 .1 .1 .0) (c .if1 .taken) (l .loop .inv .2) (q .search .ensures)
     ∙ ap (λ (cs : List ℕ). toldWidth (firstWith (takesAll (a .met .now) (a .left)) (codesUpTo (length (a .met .now)) (length cs))) cs) (l .loop .inv .0)
 
 add-w : tie.Need-add-w Inv-loop μ-loop
@@ -60,7 +60,7 @@ loop-again c =
     let i = q .before .before in
     let l = i .before in
     let a = l .before .before .before .args in
-    let n = width-none (a .met .now) (l .loop .columns) (a .left) (l .loop .w) (i .loop-test .taken) (q .search .result) (q .search .last .1 .1 .1 .0) (c .if1 .left) (q .search .ensures) in (
+    let n = width-none (a .met .now) (l .loop .columns) (a .left) (l .loop .w) (omega (arith, i .loop-test .taken)) (q .search .result) (q .search .last .1 .1 .1 .0) (c .if1 .left) (q .search .ensures) in (
       ap (λ (ys : List ℕ). ys ++ drop (l .loop .w) (l .loop .columns)) (n .0) ∙ take-append-drop (l .loop .w) (l .loop .columns) ∙ l .loop .inv .0,
       omega (arith, i .loop-test .taken, ap length (l .loop .inv .0)),
       none-more (λ w. firstWith (takesAll (a .met .now) (a .left)) (codesOf (length (a .met .now)) w)) (l .loop .w) (l .loop .inv .2) (n .1),
