@@ -39,6 +39,7 @@ number-few Refusal.TooWide = omega arith
 number-few Refusal.Unmet = omega arith
 number-few Refusal.NoRoom = omega arith
 number-few Refusal.BadCall = omega arith
+number-few Refusal.Unstable = omega arith
 number-few Refusal.NoShortCode = omega arith
 number-few Refusal.NoOutputs = omega arith
 
