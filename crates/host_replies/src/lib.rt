@@ -61,10 +61,7 @@ fn is_least(wanted: Wanted) -> bool
 fn read_as(least: bool, listing: &[u8]) -> Reading
     ensures { λ r. ⌜ r ≡ readingAs least (now (listing .entry)) ⌝ }
 {
-    if least {
-        return read_listing::read_small(listing);
-    }
-    read_listing::read_listing(listing)
+    read_listing::read_as(least, listing)
 }
 
 // The code of a listing: the least, or the one that is built.

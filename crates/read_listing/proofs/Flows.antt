@@ -2,17 +2,18 @@
 use mathlib.Core.Path.{_≡_, refl, sym, ap, _∙_}
 use mathlib.Core.Bool.{Bool, true, false, _&&_, cond}
 use mathlib.Core.List.{List, [], _∷_}
-use Prim.Native.Nat.{ℕ, _+_, _≤_, _<_}
+use Prim.Native.Nat.{ℕ, _+_, _-_, _≤_, _<_}
 use native.Mathlib.Omega.{arith}
 use lib.ListN.{length, getD, take, drop}
 use lib.Dec.{leb}
+use lib.Seq.{take-all}
 use Rattle.sets.specs.Sets.{statesFrom}
 use Rattle.rules.specs.Limits.{most-dichotomies}
 use Rattle.rules.specs.Text.{bytes, same, lf, linesOf, markOf, markIs}
 use Rattle.rules.specs.Lines.{headLine}
 use Rattle.rules.specs.FlowTable.{flowAsks, stability}
 use Rattle.rules.specs.FlowLines.{flowHead, columnCount, columnsOf, FlowStep, flowGoes, flowEnds, flowStops, flowPlaced}
-use Rattle.rules.specs.Listing.{blank, withHead, withDichotomy, withDichotomies, rowsOf, accepted, refused, nothing, conflict, checked, readLines, readAll}
+use Rattle.rules.specs.Listing.{blank, withHead, withDichotomy, withDichotomies, rowsOf, accepted, refused, nothing, conflict, checked, unended, readLines, readAll}
 use Rattle.rules.specs.Listing.{flowStep, flowGives, flowRead, flowEnded, flowUnended, flowLines}
 use Rattle.rules.specs.declared.Head.{Head}
 use Rattle.rules.specs.declared.Listing.{Listing}
@@ -31,6 +32,8 @@ use Rattle.read_flow.specs.Flows.{flowOf, flowTable}
 use Rattle.read_flow.proofs.Ends.{table-read}
 use Rattle.read_listing.specs.Says.{flowListing, readingOf}
 use Rattle.read_listing.proofs.Whole.{checked-refused, checked-accepted}
+use Rattle.read_listing.proofs.Ends.{checked-unended}
+use Rattle.read_listing.proofs.Steps.{read-last}
 
 -- ---- the head
 
@@ -141,8 +144,14 @@ lines-stand k h all (l ∷ (m ∷ ms)) = rw (flow-on k h all l m ms) (go (flowSt
 -- ---- all lines
 
 -- one line without LF
-pub all-last : (s : List ℕ) (r : ℕ) → Cut lf s 0 r → length s ≤ r → readAll (linesOf s) ≡ readLines 1 blank (linesOf s)
+all-last : (s : List ℕ) (r : ℕ) → Cut lf s 0 r → length s ≤ r → readAll (linesOf s) ≡ readLines 1 blank (linesOf s)
 all-last s r c h = ap readAll (c .last h) ∙ all-one (part s 0 r) ∙ ap (readLines 1 blank) (sym (c .last h))
+
+pub broken : (s : List ℕ) (r : ℕ) → Cut lf s 0 r → length s ≤ r → unended 1 (blank .head) 0 s ≡ checked (readAll (linesOf s))
+unfolding blank
+broken s r c h =
+    sym (checked-unended 1 (blank .head) 0 s)
+    ∙ ap checked (ap (unended 1 (blank .head) 0) (sym (take-all (length s - 0) s (omega arith))) ∙ sym (read-last 1 blank s 0 r c h) ∙ sym (all-last s r c h))
 
 module _ (s : List ℕ) (r q : ℕ) (c : Cut lf s 0 r) (d : Cut lf s (r + 1) q) (h : r < length s) where
   -- two lines at least

@@ -11,6 +11,7 @@ use Rattle.rules.specs.Limits.{most-bytes, most-small}
 use Rattle.rules.specs.Text.{lf, linesOf}
 use Rattle.rules.specs.Listing.{blank, refused, Step, goes, ends, stops, lineStep, reading}
 use Rattle.rules.specs.Least.{beginsLarge, smallReading}
+use Rattle.rules.specs.declared.Head.{Head}
 use Rattle.rules.specs.declared.Listing.{Listing}
 use Rattle.rules.specs.declared.Reading.{Reading}
 use Rattle.rules.specs.declared.Refusal.the-variants.{Limit}
@@ -38,14 +39,15 @@ large-cons l [] h = absurd (omega arith)
 large-cons l (m ∷ ms) h = refl
 
 -- the first line says x
-pub large-line : (s : List ℕ) (r : ℕ) (t : Listing) (x : Said) → Cut lf s 0 r → r < length s → t ≡ blank
-    → x ≡ lineSays 1 (t .head) (t .rows) (t .dichotomies) (t .given) (part s 0 r) → ltb most-small (statesSaid x) ≡ beginsLarge (linesOf s)
-large-line s r t x c h b e =
+pub large-line : (s : List ℕ) (r : ℕ) (h : Head) (x : Said) → Cut lf s 0 r → r < length s → h ≡ blank .head
+    → x ≡ lineSays 1 h 0 0 0 (part s 0 r) → ltb most-small (statesSaid x) ≡ beginsLarge (linesOf s)
+unfolding blank
+large-line s r h x c l b e =
     sym
-    (ap beginsLarge (c .more h)
+    (ap beginsLarge (c .more l)
     ∙ large-cons (part s 0 r) (linesOf (drop (r + 1) s)) (split-some lf (drop (r + 1) s))
     ∙ ap large (sym (says-step 1 blank (part s 0 r)))
-    ∙ ap (λ (y : Said). large (stepOf y blank)) (sym (e ∙ ap (λ (u : Listing). lineSays 1 (u .head) (u .rows) (u .dichotomies) (u .given) (part s 0 r)) b))
+    ∙ ap (λ (y : Said). large (stepOf y blank)) (sym (e ∙ ap (λ (g : Head). lineSays 1 g 0 0 0 (part s 0 r)) b))
     ∙ large-said x)
 
 -- no LF ends it
@@ -61,6 +63,11 @@ short-large s h e = e ∙ sym (ap (λ (a : Bool). a && beginsLarge (linesOf s)) 
 pub long-not : (s : List ℕ) → most-bytes < length s → false ≡ (leb (length s) most-bytes && beginsLarge (linesOf s))
 long-not s h = sym (ap (λ (a : Bool). a && beginsLarge (linesOf s)) (lt-leb (length s) most-bytes h))
 
-pub small-as : (s : List ℕ) (b : Bool) → b ≡ (leb (length s) most-bytes && beginsLarge (linesOf s)) → cond b (refused Limit 1) (reading s) ≡ smallReading s
+abbrev pub isLarge : List ℕ → Bool
+isLarge s = leb (length s) most-bytes && beginsLarge (linesOf s)
+
+-- of a small machine, or of any
+pub as-small : (s : List ℕ) (small b : Bool) → b ≡ (small && isLarge s) → cond b (refused Limit 1) (reading s) ≡ cond small (smallReading s) (reading s)
 unfolding smallReading
-small-as s b e = ap (λ (x : Bool). cond x (refused Limit 1) (reading s)) e
+as-small s true b e = ap (λ (x : Bool). cond x (refused Limit 1) (reading s)) e
+as-small s false b e = ap (λ (x : Bool). cond x (refused Limit 1) (reading s)) e

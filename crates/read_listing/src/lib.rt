@@ -2,7 +2,7 @@
 mod says;
 
 ghost use mathlib.Core.Path.{_≡_};
-ghost use mathlib.Core.Bool.{_&&_};
+ghost use mathlib.Core.Bool.{_&&_, cond};
 ghost use Prim.Native.Nat.{_<_};
 ghost use lib.Dec.{leb};
 ghost use lib.ListN.{length};
@@ -24,18 +24,25 @@ use rules::Row;
 use rules::Verdict;
 use says::Said;
 
-// The listing that says nothing.
-fn blank_listing() -> Listing
-    ensures { λ r. ⌜ r ≡ blank ⌝ }
+// The head that says nothing.
+fn no_head() -> Head
+    ensures { λ r. ⌜ r ≡ blank .head ⌝ }
 {
-    let head = Head {
+    Head {
         states: 0,
         inputs: 0,
         outputs: 0,
         width: 0,
         keeps: false,
         moore: false,
-    };
+    }
+}
+
+// The listing that says nothing.
+fn blank_listing() -> Listing
+    ensures { λ r. ⌜ r ≡ blank ⌝ }
+{
+    let head = no_head();
     let none = Pattern { ones: 0, dashes: 0 };
     let row = Row {
         input: none,
@@ -213,13 +220,14 @@ fn flow_reading(h: Head, f: Flow) -> Reading
     }
 }
 
-// All lines: those of a flow table, or of an ordinary listing.
+// All lines: those of a flow table, or of an ordinary listing. A text without LF breaks off at once, so that `read_lines` is called in one place: its listing
+// then lies where its caller's does, and takes no stack of its own.
 fn read_all(s: &[u8]) -> Reading
     ensures { λ r. ⌜ r ≡ checked (readAll (linesOf (now (s .entry)))) ⌝ }
 {
     let end = read_pieces::cut(s, 0, b'\n');
     if s.len() <= end {
-        return read_lines(s);
+        return break_off(1, no_head(), 0, s);
     }
     let at = end + 1;
     let next = read_pieces::cut(s, at, b'\n');
@@ -247,28 +255,31 @@ fn begins_large(s: &[u8]) -> bool
     let at: usize = 0;
     let end = read_pieces::cut(s, 0, b'\n');
     if end < s.len() {
-        let t = blank_listing();
-        let said = says::line_said(1, t.head, t.rows, t.dichotomies, t.given, &s[at..end]);
+        let said = says::line_said(1, no_head(), 0, 0, 0, &s[at..end]);
         return rules::MOST_SMALL < says::states_said(said);
     }
     false
 }
 
-// Whether the bytes are no more than a listing may have, and begin so.
-fn is_large(s: &[u8]) -> bool
-    ensures { λ r. ⌜ r ≡ (leb (length (now (s .entry))) most-bytes && beginsLarge (linesOf (now (s .entry)))) ⌝ }
+// Whether the bytes are to be a small machine's, are no more than a listing may have, and begin so.
+fn is_large(small: bool, s: &[u8]) -> bool
+    ensures { λ r. ⌜ r ≡ (small && (leb (length (now (s .entry))) most-bytes && beginsLarge (linesOf (now (s .entry))))) ⌝ }
 {
+    if !small {
+        return false;
+    }
     if rules::MOST_BYTES < s.len() {
         return false;
     }
     begins_large(s)
 }
 
-// Any bytes at all, as the listing of a small machine: more states are a fault of line 1.
-pub fn read_small(bytes: &[u8]) -> Reading
-    ensures { λ r. ⌜ r ≡ smallReading (now (bytes .entry)) ⌝ }
+// Any bytes at all, read as the listing of a small machine, of which more states are a fault of line 1, or as any listing. It is one function, and not one
+// for each, so that the reading is called in one place.
+pub fn read_as(small: bool, bytes: &[u8]) -> Reading
+    ensures { λ r. ⌜ r ≡ cond small (smallReading (now (bytes .entry))) (reading (now (bytes .entry))) ⌝ }
 {
-    if is_large(bytes) {
+    if is_large(small, bytes) {
         return refuse(Refusal::Limit, 1);
     }
     read_listing(bytes)

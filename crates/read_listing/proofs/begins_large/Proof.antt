@@ -14,8 +14,8 @@ use Rattle.read_listing.proofs.begins_large.Tie as tie
 cut-requires : tie.Need-cut-requires
 cut-requires c κs = search needs
 
-blank-listing-requires : tie.Need-blank-listing-requires
-blank-listing-requires c κs = search needs
+no-head-requires : tie.Need-no-head-requires
+no-head-requires c κs = search needs
 
 sub-line-said : tie.Need-sub-line-said
 sub-line-said c = search needs
@@ -40,7 +40,7 @@ returns c =
     let k = i .before in
     let s = k .before .before .args .s .now in
     ap (λ (n : ℕ). ltb most-small n) (c .states-said .ensures)
-    ∙ large-line s (k .cut .result) (b .blank-listing .result) (l .line-said .result) (cut-of lf s 0 (omega arith) (k .cut .ensures)) (i .if1 .taken) (b .blank-listing .ensures) (l .line-said .ensures)
+    ∙ large-line s (k .cut .result) (b .no-head .result) (l .line-said .result) (cut-of lf s 0 (omega arith) (k .cut .ensures)) (i .if1 .taken) (b .no-head .ensures) (l .line-said .ensures)
 
 returns-2 : tie.Need-returns-2
 returns-2 c =
@@ -53,7 +53,7 @@ begins-large-spec =
     tie.close
     (tie.spec
     cut-requires
-    blank-listing-requires
+    no-head-requires
     sub-line-said
     part-line-said-start
     part-line-said-end

@@ -2,21 +2,32 @@
 use mathlib.Core.Path.{sym, ap, _∙_}
 use native.Mathlib.Omega.{arith}
 use borrow.Author.Needs.{needs}
-use Rattle.rules.specs.Listing.{checked}
+use Rattle.rules.specs.Text.{lf}
+use Rattle.rules.specs.Listing.{unended, checked}
+use Rattle.rules.specs.declared.Head.{Head}
 use Rattle.read_pieces.proofs.Laws.{cut-of}
 use Rattle.read_listing.specs.Says.{readingOf}
-use Rattle.read_listing.proofs.Flows.{all-last, all-ordinary, all-flow}
+use Rattle.read_listing.proofs.Flows.{broken, all-ordinary, all-flow}
 use Rattle.read_listing.proofs.read_all.Statement.{statement}
 use Rattle.read_listing.proofs.read_all.Tie as tie
 
 cut-requires : tie.Need-cut-requires
 cut-requires c κs = search needs
 
-read-lines-requires : tie.Need-read-lines-requires
-read-lines-requires c κs = search needs
+no-head-requires : tie.Need-no-head-requires
+no-head-requires c κs = search needs
+
+break-off-requires : tie.Need-break-off-requires
+break-off-requires c κs = search needs
 
 returns : tie.Need-returns
-returns c = c .read-lines .ensures ∙ ap checked (sym (all-last _ _ (cut-of _ _ 0 (omega arith) (c .before .before .cut .ensures)) (c .before .if1 .taken)))
+returns c =
+    let k = c .before .before .before in
+    let s = k .before .before .args .s .now in
+    let cut = cut-of lf s 0 (omega arith) (k .cut .ensures) in
+    c .break-off .ensures
+    ∙ ap (λ (h : Head). unended 1 h 0 s) (c .before .no-head .ensures)
+    ∙ broken s (k .cut .result) cut (c .before .before .if1 .taken)
 
 add-at : tie.Need-add-at
 add-at c = search needs
@@ -74,8 +85,8 @@ flow-reading-requires c κs = search needs
 enum-told : tie.Need-enum-told
 enum-told c = search needs
 
-read-lines-requires-2 : tie.Need-read-lines-requires-2
-read-lines-requires-2 c κs = search needs
+read-lines-requires : tie.Need-read-lines-requires
+read-lines-requires c κs = search needs
 
 returns-2 : tie.Need-returns-2
 returns-2 c =
@@ -92,14 +103,15 @@ returns-3 c =
     let a = f .before .before in
     let one = cut-of _ _ 0 (omega arith) (a .before .before .before .cut .ensures) in
     let two = cut-of _ _ _ (omega arith) (a .before .cut2 .ensures) in
-    c .read-lines2 .ensures ∙ ap checked (sym (all-ordinary _ _ _ one two (omega arith) (sym (f .flow-head .ensures) ∙ c .before .enum-told .given .1)))
+    c .read-lines .ensures ∙ ap checked (sym (all-ordinary _ _ _ one two (omega arith) (sym (f .flow-head .ensures) ∙ c .before .enum-told .given .1)))
 
 pub read-all-spec : {M : Type 1} → statement M
 read-all-spec =
     tie.close
     (tie.spec
     cut-requires
-    read-lines-requires
+    no-head-requires
+    break-off-requires
     returns
     add-at
     cut-requires-2
@@ -117,6 +129,6 @@ read-all-spec =
     read-flow-requires
     flow-reading-requires
     enum-told
-    read-lines-requires-2
+    read-lines-requires
     returns-2
     returns-3)
