@@ -16,6 +16,8 @@ typedef _Bool bool;
 
 #define LENGTH_OF(array) (sizeof(array) / sizeof((array)[0]))
 
+extern int open(const char *name, int flags, ...);
+extern int close(int file);
 extern long read(int file, void *into, size_t length);
 extern long write(int file, const void *from, size_t length);
 extern void exit(int status) __attribute__((noreturn));

@@ -1,5 +1,6 @@
 /* The benchmark: the library, the native encoder and the second encoder on the same listings, in one process, in turns. */
 #include "bench_listings.h"
+#include "bench_replay.h"
 #include "generate.h"
 #include "tsurmokan.h"
 #include "native.h"
@@ -217,6 +218,19 @@ static int64_t cover_part(const uint8_t *listing, size_t listing_length, uint8_t
     return tsurmokan_cover_part(listing, listing_length, 0, part, part_length);
 }
 
+/* A step of a run, and a part of it. */
+static const uint8_t short_run[] = "SS 0\nIN 00000000\n";
+
+static int64_t replay(const uint8_t *listing, size_t listing_length, uint8_t *text, size_t text_length)
+{
+    return tsurmokan_replay(listing, listing_length, short_run, sizeof short_run - 1, text, text_length);
+}
+
+static int64_t replay_part(const uint8_t *listing, size_t listing_length, uint8_t *text, size_t text_length)
+{
+    return tsurmokan_replay_part(listing, listing_length, short_run, sizeof short_run - 1, 0, text, text_length);
+}
+
 /* The stack of a call on the listing of the plans that needs most. */
 static void print_stack(const char *name, encoder *call)
 {
@@ -243,6 +257,8 @@ static void print_stacks(void)
     print_stack("widths", tsurmokan_widths);
     print_stack("report_part", report_part);
     print_stack("cover_part", cover_part);
+    print_stack("replay", replay);
+    print_stack("replay_part", replay_part);
     print_stack("native", native_report);
 }
 
@@ -251,6 +267,7 @@ int main(void)
     check_native();
     for (unsigned at = 0; at < bench_plans_number; at++)
         print_row(at);
+    bench_replays(SEED);
     print_stacks();
     return 0;
 }

@@ -9,12 +9,13 @@ FIELDS = ("groups states rows di asked p demand bits passes looks library native
           "by_native by_native_least by_native_greatest by_second by_second_least by_second_greatest second_rounds").split()
 
 STACKS = {"library": "the library's report", "cover": "the library's cover", "widths": "the library's widths",
-          "report_part": "a part of a report", "cover_part": "a part of a cover", "native": "the native report"}
+          "report_part": "a part of a report", "cover_part": "a part of a cover", "replay": "the library's replay",
+          "replay_part": "a part of a replay", "native": "the native report"}
 
 
 def read_results(path):
-    """The results by kind of line: rows as dictionaries, the others as they stand."""
-    rows, stacks, facts = [], {}, {}
+    """The results by kind of line: rows as dictionaries, replays as lists of numbers, the others as they stand."""
+    rows, stacks, replays, facts = [], {}, [], {}
     for line in open(path):
         word, _, rest = line.strip().partition(" ")
         if word == "row":
@@ -24,9 +25,11 @@ def read_results(path):
         elif word == "stack":
             name, size, *plan = rest.split()
             stacks[name] = int(size), plan
+        elif word == "replay":
+            replays.append([float(value) for value in rest.split()])
         else:
             facts[word] = rest
-    return rows, stacks, facts
+    return rows, stacks, replays, facts
 
 
 def sections(elf):
@@ -92,7 +95,17 @@ def slopes(rows):
             yield f"| {name} | {least} states or more | " + " | ".join(cells) + " |"
 
 
-def figures(rows, stacks, facts, sizes):
+def replay_table(replays):
+    yield "A recorded run, of a machine with two rows for each state:"
+    yield ""
+    yield "| states | rows | steps | library ms | library, ns a step | second ms | second, ns a step |"
+    yield "|---:|---:|---:|---:|---:|---:|---:|"
+    for states, lines, steps, library, step, second, second_step in replays:
+        counts = f"{states:.0f} | {lines:.0f} | {steps:,.0f}"
+        yield f"| {counts} | {library / 1000:.2f} | {step:,.0f} | {second / 1000:.2f} | {second_step:,.0f} |"
+
+
+def figures(rows, stacks, replays, facts, sizes):
     ratios = [row["by_native"] for row in rows]
     yield f"Run on {facts['date']}, {facts['machine']}; {facts['checked']} listings compared first, without a difference."
     yield ""
@@ -105,6 +118,8 @@ def figures(rows, stacks, facts, sizes):
         yield f"In the mean of the {len(large)} rows of {least} states or more {sum(large) / len(large):.2f}."
     yield ""
     yield from slopes(rows)
+    yield ""
+    yield from replay_table(replays)
     yield ""
     yield "| Size | bytes |"
     yield "|---|---:|"
@@ -180,11 +195,11 @@ def plot(rows, facts):
 
 
 def main(results, archive, docs):
-    rows, stacks, facts = read_results(results)
+    rows, stacks, replays, facts = read_results(results)
     page = open(f"{docs}/BENCHMARK.md").read()
     before, _, rest = page.partition(BEGIN)
     _, _, after = rest.partition(END)
-    lines = "\n".join(figures(rows, stacks, facts, static_size(archive)))
+    lines = "\n".join(figures(rows, stacks, replays, facts, static_size(archive)))
     open(f"{docs}/BENCHMARK.md", "w").write(f"{before}{BEGIN}\n{lines}\n{END}{after}")
     open(f"{docs}/benchmark.svg", "w").write("\n".join(plot(rows, facts)) + "\n")
 

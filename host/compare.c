@@ -3,11 +3,12 @@
 
 /* Bytes of chance before and behind a lent buffer, which nobody may change. */
 #define GUARD 64
-#define BUFFER (SECOND_TEXT + 4096)
+#define AMPLE (SECOND_TEXT + 4096)
+#define BUFFER (COMPARE_TEXT + 4096)
 #define ARENA (GUARD + BUFFER + GUARD)
 #define GIVEN 70000
 
-uint8_t compare_ample[SECOND_TEXT];
+uint8_t compare_ample[COMPARE_TEXT];
 static uint8_t came[ARENA], ours[ARENA], theirs[ARENA], given_came[GIVEN];
 
 uint64_t compare_now(void)
@@ -57,10 +58,10 @@ static void lay_out(struct chance *chance, const struct compare_given *given, si
     memcpy(given_came, given->bytes, given->length);
 }
 
-/* How long a buffer to lend for an answer of this length: often enough, sometimes just enough, one short, or none. */
+/* How long a buffer to lend for an answer of this length, which may be 0: often enough, sometimes just enough, one short, or none. */
 static size_t draw_buffer(struct chance *chance, int64_t answer)
 {
-    if (answer < 0)
+    if (answer <= 0)
         return chance_part(chance, 1, 4) ? 0 : chance_below(chance, 200);
     unsigned length = (unsigned)answer;
     switch (chance_below(chance, 12)) {
@@ -74,7 +75,7 @@ static size_t draw_buffer(struct chance *chance, int64_t answer)
     case 4:
         return length + 1;
     case 5:
-        return chance_part(chance, 1, 20) ? BUFFER : length + 2;
+        return chance_part(chance, 1, 20) && length < AMPLE ? AMPLE : length + 2;
     default:
         return length + chance_below(chance, 300);
     }
@@ -134,6 +135,21 @@ static unsigned place_of(int64_t answer)
     return number < COMPARE_NUMBERS ? (unsigned)number : COMPARE_NUMBERS;
 }
 
+/* Calls the library, whose buffer is laid out, and holds it against what the second encoder answered and wrote. */
+static bool compare_call(struct compare_tally *tally, entry *library, const struct compare_given *given, size_t length,
+                         int64_t our_answer)
+{
+    uint64_t start = compare_now();
+    int64_t their_answer = library(given->bytes, given->length, theirs + GUARD, length);
+    tally->library_time += compare_now() - start;
+
+    tally->seen[place_of(our_answer)]++;
+    const char *what = difference(given, length, our_answer, their_answer);
+    if (what != NULL)
+        print_difference(tally->name, what, given, length, our_answer, their_answer);
+    return what == NULL;
+}
+
 bool compare_entry(struct chance *chance, struct compare_tally *tally, entry *library, entry *second,
                    const struct compare_given *given, int64_t *answered)
 {
@@ -143,16 +159,17 @@ bool compare_entry(struct chance *chance, struct compare_tally *tally, entry *li
 
     size_t length = draw_buffer(chance, *answered);
     lay_out(chance, given, length);
-    int64_t our_answer = lend(*answered, ours + GUARD, length);
-    start = compare_now();
-    int64_t their_answer = library(given->bytes, given->length, theirs + GUARD, length);
-    tally->library_time += compare_now() - start;
+    return compare_call(tally, library, given, length, lend(*answered, ours + GUARD, length));
+}
 
-    tally->seen[place_of(our_answer)]++;
-    const char *what = difference(given, length, our_answer, their_answer);
-    if (what != NULL)
-        print_difference(tally->name, what, given, length, our_answer, their_answer);
-    return what == NULL;
+bool compare_lent(struct chance *chance, struct compare_tally *tally, entry *library, entry *second,
+                  const struct compare_given *given, size_t length, int64_t *answered)
+{
+    lay_out(chance, given, length);
+    uint64_t start = compare_now();
+    *answered = second(given->bytes, given->length, ours + GUARD, length);
+    tally->second_time += compare_now() - start;
+    return compare_call(tally, library, given, length, *answered);
 }
 
 void compare_print(const struct compare_tally *tally)

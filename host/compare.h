@@ -24,8 +24,11 @@ struct compare_given {
     const char *kind;
 };
 
+/* No text is longer that any entry answers. */
+#define COMPARE_TEXT (SECOND_TEXT > SECOND_REPLAY_TEXT ? SECOND_TEXT : SECOND_REPLAY_TEXT)
+
 /* The second encoder's whole answer of the last call of compare_entry. */
-extern uint8_t compare_ample[SECOND_TEXT];
+extern uint8_t compare_ample[COMPARE_TEXT];
 
 /* This process's own time in nanoseconds. */
 uint64_t compare_now(void);
@@ -34,6 +37,11 @@ uint64_t compare_now(void);
    *answered is what the second encoder answers with room enough. */
 bool compare_entry(struct chance *chance, struct compare_tally *tally, entry *library, entry *second,
                    const struct compare_given *given, int64_t *answered);
+
+/* The same with a buffer of this length, for entries of which an answer hangs on it otherwise than that it fits or does not. *answered is
+   what the second encoder answers. */
+bool compare_lent(struct chance *chance, struct compare_tally *tally, entry *library, entry *second,
+                  const struct compare_given *given, size_t length, int64_t *answered);
 
 void compare_print(const struct compare_tally *tally);
 

@@ -76,11 +76,11 @@ int64_t second_part(const uint8_t *text, size_t text_length, size_t from, uint8_
     return (int64_t)fits;
 }
 
-/* "too long; then lines from the top ...; then 6" */
-static struct second_refusal prepare(const uint8_t *listing, size_t length, struct second_machine *machine,
-                                     struct second_requirements *requirements)
+/* "too long; then lines from the top ...; then 6", whatever form the text has that is read */
+static struct second_refusal prepare(second_reader *read, const uint8_t *listing, size_t length,
+                                     struct second_machine *machine, struct second_requirements *requirements)
 {
-    struct second_refusal refusal = second_read_lines(listing, length, machine);
+    struct second_refusal refusal = read(listing, length, machine);
     if (refusal.number != SECOND_FINE)
         return refusal;
     refusal = second_find_conflict(machine);
@@ -90,10 +90,11 @@ static struct second_refusal prepare(const uint8_t *listing, size_t length, stru
 }
 
 /* "then 6; 7", and no 8 (02, request 06) */
-static struct second_refusal encode(const uint8_t *listing, size_t length, struct second_machine *machine,
-                                    struct second_requirements *requirements, struct second_code *code)
+static struct second_refusal encode(second_reader *read, const uint8_t *listing, size_t length,
+                                    struct second_machine *machine, struct second_requirements *requirements,
+                                    struct second_code *code)
 {
-    struct second_refusal refusal = prepare(listing, length, machine, requirements);
+    struct second_refusal refusal = prepare(read, listing, length, machine, requirements);
     if (refusal.number != SECOND_FINE)
         return refusal;
     return second_build_code(requirements, machine->states, machine->width, code);
@@ -245,12 +246,13 @@ static void write_cover(const struct second_machine *machine, const struct secon
     put_word(text, ".e\n");
 }
 
-static struct second_refusal make_report(const uint8_t *listing, size_t listing_length, struct text *text)
+static struct second_refusal make_report(second_reader *read, const uint8_t *listing, size_t listing_length,
+                                         struct text *text)
 {
     static struct second_machine machine;
     static struct second_requirements requirements;
     struct second_code code;
-    struct second_refusal refusal = encode(listing, listing_length, &machine, &requirements, &code);
+    struct second_refusal refusal = encode(read, listing, listing_length, &machine, &requirements, &code);
     if (refusal.number != SECOND_FINE)
         return refusal;
     text->length = 0;
@@ -259,13 +261,14 @@ static struct second_refusal make_report(const uint8_t *listing, size_t listing_
 }
 
 /* 9 is "cover asked for, and a pair or group requirement is unmet": a dichotomy may stay unmet. */
-static struct second_refusal make_cover(const uint8_t *listing, size_t listing_length, struct text *text)
+static struct second_refusal make_cover(second_reader *read, const uint8_t *listing, size_t listing_length,
+                                        struct text *text)
 {
     static struct second_machine machine;
     static struct second_requirements requirements;
     struct second_refusal unmet = {SECOND_UNMET, 0};
     struct second_code code;
-    struct second_refusal refusal = encode(listing, listing_length, &machine, &requirements, &code);
+    struct second_refusal refusal = encode(read, listing, listing_length, &machine, &requirements, &code);
     if (refusal.number != SECOND_FINE)
         return refusal;
     if (count_unmet(&requirements, requirements.pairs_groups, &code) > 0)
@@ -275,31 +278,43 @@ static struct second_refusal make_cover(const uint8_t *listing, size_t listing_l
     return refusal;
 }
 
-int64_t second_report(const uint8_t *listing, size_t listing_length, uint8_t *out, size_t out_length)
+int64_t second_report_of(second_reader *read, const uint8_t *listing, size_t listing_length, uint8_t *out,
+                         size_t out_length)
 {
     static struct text text;
-    struct second_refusal refusal = make_report(listing, listing_length, &text);
+    struct second_refusal refusal = make_report(read, listing, listing_length, &text);
     return refusal.number != SECOND_FINE ? refused(refusal) : hand_over(&text, out, out_length);
+}
+
+int64_t second_cover_of(second_reader *read, const uint8_t *listing, size_t listing_length, uint8_t *out,
+                        size_t out_length)
+{
+    static struct text text;
+    struct second_refusal refusal = make_cover(read, listing, listing_length, &text);
+    return refusal.number != SECOND_FINE ? refused(refusal) : hand_over(&text, out, out_length);
+}
+
+int64_t second_report(const uint8_t *listing, size_t listing_length, uint8_t *out, size_t out_length)
+{
+    return second_report_of(second_read_lines, listing, listing_length, out, out_length);
 }
 
 int64_t second_cover(const uint8_t *listing, size_t listing_length, uint8_t *out, size_t out_length)
 {
-    static struct text text;
-    struct second_refusal refusal = make_cover(listing, listing_length, &text);
-    return refusal.number != SECOND_FINE ? refused(refusal) : hand_over(&text, out, out_length);
+    return second_cover_of(second_read_lines, listing, listing_length, out, out_length);
 }
 
 int64_t second_report_part(const uint8_t *listing, size_t listing_length, size_t from, uint8_t *out, size_t out_length)
 {
     static struct text text;
-    struct second_refusal refusal = make_report(listing, listing_length, &text);
+    struct second_refusal refusal = make_report(second_read_lines, listing, listing_length, &text);
     return refusal.number != SECOND_FINE ? refused(refusal) : second_part(text.bytes, text.length, from, out, out_length);
 }
 
 int64_t second_cover_part(const uint8_t *listing, size_t listing_length, size_t from, uint8_t *out, size_t out_length)
 {
     static struct text text;
-    struct second_refusal refusal = make_cover(listing, listing_length, &text);
+    struct second_refusal refusal = make_cover(second_read_lines, listing, listing_length, &text);
     return refusal.number != SECOND_FINE ? refused(refusal) : second_part(text.bytes, text.length, from, out, out_length);
 }
 
@@ -328,7 +343,7 @@ int64_t second_widths(const uint8_t *listing, size_t listing_length, uint8_t *ou
     static struct second_machine machine;
     static struct second_requirements requirements;
     static struct text text;
-    struct second_refusal refusal = prepare(listing, listing_length, &machine, &requirements);
+    struct second_refusal refusal = prepare(second_read_lines, listing, listing_length, &machine, &requirements);
     if (refusal.number != SECOND_FINE)
         return refused(refusal);
     text.length = 0;

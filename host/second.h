@@ -35,8 +35,13 @@
    178, and the other lines together far fewer than 256. */
 #define SECOND_TEXT (SECOND_REQUIREMENTS * 12 + SECOND_STATES * 71 + SECOND_COVER_ROWS * 178 + 256)
 
-/* 01, "Refusal numbers", 13 of 02's request 05, 16 of its request 11 and 17 of its request 13. SECOND_FINE stands for no refusal;
-   8 is unused (02, request 06). */
+/* 02, request 08: "the 10,001st `IN` is 2". A step's line has at most 104 bytes: a state of two digits, a code of 64 bits and 32 outputs;
+   the refusal behind the last of them has 11. */
+#define SECOND_STEPS 10000
+#define SECOND_REPLAY_TEXT (SECOND_STEPS * 104 + 11)
+
+/* 01, "Refusal numbers", 12 of 02's request 01, 13 of its request 05, 14 of its request 08, 16 of its request 11 and 17 of its request 13.
+   SECOND_FINE stands for no refusal; 8 is unused (02, request 06). */
 enum {
     SECOND_FINE = 0,
     SECOND_BAD_LINE = 1,
@@ -49,7 +54,9 @@ enum {
     SECOND_UNMET = 9,
     SECOND_NO_ROOM = 10,
     SECOND_BAD_CALL = 11,
+    SECOND_KISS = 12,     /* a name that is too long, or a number that disagrees with the lines, in a KISS2 text */
     SECOND_UNSTABLE = 13, /* a destination of a flow table that is not stable in its column */
+    SECOND_STUCK = 14,    /* a step of a run that names no next state */
     SECOND_NO_CODE = 16,  /* no code of 5 bits meets everything */
     SECOND_UNTOLD = 17    /* a state of a Moore machine without an `OU` line */
 };
@@ -122,8 +129,24 @@ int64_t second_cover_part(const uint8_t *listing, size_t listing_length, size_t 
 /* The report and the cover of a small machine in a code of the fewest bits (02, request 11). */
 int64_t second_least(const uint8_t *listing, size_t listing_length, uint8_t *out, size_t out_length);
 int64_t second_least_cover(const uint8_t *listing, size_t listing_length, uint8_t *out, size_t out_length);
+/* The same of a KISS2 text (02, request 01); the listing that it is, as text, with the refusals of the report but 7; and the
+   names of its states. */
+int64_t second_kiss_report(const uint8_t *text, size_t text_length, uint8_t *out, size_t out_length);
+int64_t second_kiss_cover(const uint8_t *text, size_t text_length, uint8_t *out, size_t out_length);
+int64_t second_kiss_listing(const uint8_t *text, size_t text_length, uint8_t *out, size_t out_length);
+int64_t second_kiss_names(const uint8_t *text, size_t text_length, uint8_t *out, size_t out_length);
+
+/* The replay of a recorded run over a listing (02, request 08), whole and in parts: a refusal of the listing is answered as above, and one
+   of the run is the last line of the text. */
+int64_t second_replay(const uint8_t *listing, size_t listing_length, const uint8_t *run, size_t run_length, uint8_t *out,
+                      size_t out_length);
+int64_t second_replay_part(const uint8_t *listing, size_t listing_length, const uint8_t *run, size_t run_length, size_t from,
+                           uint8_t *out, size_t out_length);
 
 /* The steps, for the tests. */
+
+/* From a text to a machine, or to the refusal of its lines. */
+typedef struct second_refusal second_reader(const uint8_t *text, size_t length, struct second_machine *machine);
 
 /* second_read.c */
 struct second_refusal second_read_head(const uint8_t *listing, size_t length, struct second_machine *machine);
@@ -159,6 +182,42 @@ typedef struct second_refusal second_finder(const uint8_t *listing, size_t lengt
                                             struct second_requirements *requirements, struct second_code *code);
 int64_t second_report_by(second_finder *find, const uint8_t *listing, size_t listing_length, uint8_t *out, size_t out_length);
 int64_t second_cover_by(second_finder *find, const uint8_t *listing, size_t listing_length, uint8_t *out, size_t out_length);
+/* second_kiss.c */
+
+/* The headers of KISS2 that stand at most once: `.i .o .s .p .r`, in this order. */
+enum { SECOND_KISS_I, SECOND_KISS_O, SECOND_KISS_S, SECOND_KISS_P, SECOND_KISS_R, SECOND_KISS_HEADERS };
+
+/* A name, where it stands in the text. */
+struct second_kiss_name {
+    const uint8_t *at;
+    size_t length;
+};
+
+/* What can be wrong with one line, each judged for itself; 3, 1, 12 and 2 in this order decide. */
+enum {
+    SECOND_KISS_PLACE = 1,
+    SECOND_KISS_BAD = 2,
+    SECOND_KISS_NAME = 4,
+    SECOND_KISS_LIMIT = 8
+};
+
+/* What has been read of a KISS2 text. */
+struct second_kiss {
+    struct second_machine machine;
+    unsigned header_line[SECOND_KISS_HEADERS]; /* 0 where there is none */
+    unsigned header_number[SECOND_KISS_HEADERS];
+    unsigned lines; /* of rows, before joining */
+    unsigned names;
+    struct second_kiss_name name[SECOND_STATES];
+    bool whole[SECOND_ROWS]; /* the rows that have a line whose present state is `*` */
+    unsigned faults;         /* of the line that is refused, all of them */
+};
+
+struct second_refusal second_kiss_read(const uint8_t *text, size_t length, struct second_kiss *kiss);
+
+/* second.c */
+int64_t second_report_of(second_reader *read, const uint8_t *text, size_t length, uint8_t *out, size_t out_length);
+int64_t second_cover_of(second_reader *read, const uint8_t *text, size_t length, uint8_t *out, size_t out_length);
 char second_face_place(uint64_t group, uint64_t bit);
 int64_t second_part(const uint8_t *text, size_t text_length, size_t from, uint8_t *out, size_t out_length);
 

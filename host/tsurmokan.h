@@ -12,8 +12,9 @@
  * of 10,016 requirements, and the end: report-length of crates/write_report/proofs/Length.antt.) A cover has at most 34,207. */
 #define TSURMOKAN_ROOM 124799
 
-/* No line of a report or of a cover is longer, its LF included: a buffer of this many bytes has room for some part of either. */
-#define TSURMOKAN_LINE 178
+/* No line of any text is longer, its LF included: a buffer of this many bytes has room for some part of a report or of a cover. (The
+ * longest is a row of the listing that a KISS2 text becomes.) */
+#define TSURMOKAN_LINE 183
 
 /* The report of a listing: each state's code, which bit meets which requirement, and what the code leaves unmet.
  *   listing, listing_length   the listing's bytes, any bytes at all
@@ -60,6 +61,53 @@ extern int64_t tsurmokan_report_part(const uint8_t *listing, size_t listing_leng
 
 /* The same of the cover, with the refusals of tsurmokan_cover. */
 extern int64_t tsurmokan_cover_part(const uint8_t *listing, size_t listing_length, size_t from, uint8_t *out, size_t out_length);
+
+/* ---- a machine in the KISS2 form ---- */
+
+/* No listing that a KISS2 text becomes is longer (128 rows of 64 states, 16 inputs and 32 outputs), and no list of names (64 of 31
+ * bytes). */
+#define TSURMOKAN_KISS_LISTING_ROOM 23441
+#define TSURMOKAN_KISS_NAMES_ROOM 2425
+
+/* The report of the listing that a KISS2 text becomes (docs/KISS2.md has the form): its states are numbered from `.r` on as they first
+ * appear, and its width is 0.
+ *   text, text_length         the text's bytes, any bytes at all
+ *   out, out_length           as above, and so is the answer
+ * The refusals are 1, 2, 3, 6, 7, 10 and 12. TSURMOKAN_ROOM bytes are always enough. */
+extern int64_t tsurmokan_kiss_report(const uint8_t *text, size_t text_length, uint8_t *out, size_t out_length);
+
+/* The cover of that listing; rows that say nothing are left out. */
+extern int64_t tsurmokan_kiss_cover(const uint8_t *text, size_t text_length, uint8_t *out, size_t out_length);
+
+/* That listing itself, as text: given to tsurmokan_report or tsurmokan_cover it has the same answer. Nothing is encoded, so 7 is
+ * never given. */
+extern int64_t tsurmokan_kiss_listing(const uint8_t *text, size_t text_length, uint8_t *out, size_t out_length);
+
+/* The names of its states: a line `NM state name` for each, ascending, then `EN`. The same refusals as tsurmokan_kiss_listing. */
+extern int64_t tsurmokan_kiss_names(const uint8_t *text, size_t text_length, uint8_t *out, size_t out_length);
+
+/* ---- a recorded run, replayed ---- */
+
+/* No replay of a run is longer (10,000 steps of a machine of 64 states, 64 bits and 32 outputs, and a refusal: longest-run of
+ * crates/run_replay/proofs/Replies.antt), and no line of one. */
+#define TSURMOKAN_REPLAY_ROOM 1040012
+#define TSURMOKAN_REPLAY_LINE 104
+
+/* The steps of a recorded run over a listing (docs/REPLAY.md has the form): for each a line `ST state code outputs`, with the state and the
+ * code after the step and the outputs of the state before it. The code is what the rows of the cover give, and always that state's code.
+ *   listing, listing_length   the listing's bytes, any bytes at all
+ *   run, run_length           the run's bytes, any bytes and as many as you like
+ *   out, out_length           as above; a buffer overlaps neither of the two texts
+ * Answers the number of bytes written, which is 0 for a run of no steps. A run that is refused is answered too: the steps before the
+ * refusal stay, and the last line is `NO number line`, where the line is one of the run and the number 1, 2 or 14 (no firing row names a
+ * next state). A listing that is refused writes nothing: below 0, with the refusals of tsurmokan_cover; so does 10. */
+extern int64_t tsurmokan_replay(const uint8_t *listing, size_t listing_length, const uint8_t *run, size_t run_length, uint8_t *out,
+                                size_t out_length);
+
+/* What is left of that text from byte `from` on, as tsurmokan_report_part has it of a report: as many whole lines as fit, 0 where nothing is
+ * left. Each call encodes and replays anew, so that few large parts are quicker than many small ones. */
+extern int64_t tsurmokan_replay_part(const uint8_t *listing, size_t listing_length, const uint8_t *run, size_t run_length, size_t from,
+                                     uint8_t *out, size_t out_length);
 
 /* ---- single moves on one bit ---- */
 

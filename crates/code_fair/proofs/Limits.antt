@@ -1,20 +1,22 @@
 -- What a fair listing grants, as facts about its numbers, its rows and its dichotomies.
 use mathlib.Core.Path.{_≡_, refl, _∙_}
-use mathlib.Core.Bool.{Bool, true, _&&_}
+use mathlib.Core.Bool.{Bool, true, false, _&&_}
 use mathlib.Core.List.{List, [], _∷_}
-use Prim.Native.Nat.{ℕ, zero, suc, _^_, _≤_, _<_}
+use Prim.Native.Nat.{ℕ, zero, suc, _^_, _-_, _≤_, _<_}
 use native.Mathlib.Omega.{arith}
 use lib.Bits.{bitAnd}
 use lib.Dec.{leb, ltb, eqb}
 use lib.ListN.{length, getD}
-use borrow.Author.Tests.{leb-true, ltb-true, eqb-true, le-leb, lt-ltb, eq-eqb}
+use lib.Pow.{pow-pos}
+use borrow.Author.Tests.{leb-true, ltb-true, ltb-false, eqb-true, le-leb, lt-leb, lt-ltb, eq-eqb}
+use Rattle.sets.specs.Sets.{everyone}
 use Rattle.sets.proofs.Every.{and-first, and-second, and-both}
 use Rattle.rules.specs.Limits.{most-states, most-bits, most-rows, most-dichotomies}
 use Rattle.rules.specs.Listing.{noRow, noRequirement, rowsOf, dichotomiesOf}
 use Rattle.rules.specs.declared.Requirement.{Requirement}
 use Rattle.rules.specs.declared.Listing.{Listing}
 use Rattle.rules.proofs.SoundLines.{SoundBlocks}
-use Rattle.code_fair.specs.Fair.{each, groupWithin, blocksWithin, withinLimits, fair}
+use Rattle.code_fair.specs.Fair.{each, groupWithin, blocksWithin, groupUnder, blocksUnder, withinLimits, fair}
 
 -- ---- the tests, one after the other
 
@@ -26,6 +28,28 @@ limits-each t p q r s = rw (p, q, r, s)
 pub blocks-each : (n : ℕ) (d : Requirement) {a b : Bool} → ltb (d .first) (2 ^ n) ≡ a → ltb (d .second) (2 ^ n) ≡ b
     → blocksWithin n d ≡ (a && (b && eqb (bitAnd (d .first) (d .second)) 0))
 blocks-each n d p q = rw (p, q)
+
+pub under-each : (all : ℕ) (d : Requirement) {a b : Bool} → leb (d .first) all ≡ a → leb (d .second) all ≡ b
+    → blocksUnder all d ≡ (a && (b && eqb (bitAnd (d .first) (d .second)) 0))
+under-each all d p q = rw (p, q)
+
+-- below 2 ^ n is no greater than the set of all n states
+below : (m k : ℕ) → 1 ≤ k → leb m (k - 1) ≡ ltb m k
+below m k h = go (ltb m k) refl
+  where
+    go : (b : Bool) → ltb m k ≡ b → leb m (k - 1) ≡ b
+    go true e =
+        let l = ltb-true m k e in
+        le-leb m (k - 1) (omega (arith, l))
+    go false e =
+        let l = ltb-false m k e in
+        lt-leb m (k - 1) (omega (arith, l))
+
+pub group-under : (n : ℕ) → groupUnder (everyone n) ≡ groupWithin n
+group-under n = λ i r. below (r .group) (2 ^ n) (pow-pos n) i
+
+pub blocks-under : (n : ℕ) → blocksUnder (everyone n) ≡ blocksWithin n
+blocks-under n = λ i d. below (d .first) (2 ^ n) (pow-pos n) i && (below (d .second) (2 ^ n) (pow-pos n) i && eqb (bitAnd (d .first) (d .second)) 0)
 
 pub fair-each : (t : Listing) {a b : Bool} → withinLimits t ≡ a → each (groupWithin (t .head .states)) (rowsOf t) ≡ b
     → fair t ≡ (a && (b && each (blocksWithin (t .head .states)) (dichotomiesOf t)))

@@ -23,6 +23,13 @@ groupWithin n r = ltb (r .group) (2 ^ n)
 abbrev pub blocksWithin : ℕ → Requirement → Bool
 blocksWithin n d = ltb (d .first) (2 ^ n) && (ltb (d .second) (2 ^ n) && eqb (bitAnd (d .first) (d .second)) 0)
 
+-- the same, where the set of all states is told: a set of some of them is no greater a number
+abbrev pub groupUnder : ℕ → Row → Bool
+groupUnder all r = leb (r .group) all
+
+abbrev pub blocksUnder : ℕ → Requirement → Bool
+blocksUnder all d = leb (d .first) all && (leb (d .second) all && eqb (bitAnd (d .first) (d .second)) 0)
+
 unfoldable pub withinLimits : Listing → Bool
 withinLimits t =
     leb 1 (t .head .states)

@@ -1,22 +1,12 @@
 // Whether a listing is fair: its numbers, its groups and its dichotomies, one after the other.
 ghost use mathlib.Core.Path.{_≡_};
-ghost use mathlib.Core.Bool.{true};
-ghost use Prim.Native.Nat.{_^_};
-ghost use lib.Dec.{ltb};
-ghost use Rattle.rules.specs.Listing.{rowsOf, dichotomiesOf};
-ghost use Rattle.code_fair.specs.Fair.{each, groupWithin, blocksWithin, withinLimits};
+ghost use Prim.Native.Nat.{_≤_};
+ghost use lib.ListN.{take};
+ghost use Rattle.rules.specs.Limits.{most-rows, most-dichotomies};
+ghost use Rattle.code_fair.specs.Fair.{each, groupUnder, blocksUnder, withinLimits};
 use rules::Listing;
 use rules::Requirement;
-
-// Whether the states of m are all below n.
-fn within(n: usize, m: u64) -> bool
-    ensures { λ r. ⌜ r ≡ ltb m (2 ^ n) ⌝ }
-{
-    if 64 <= n {
-        return true;
-    }
-    m < 1 << n
-}
+use rules::Row;
 
 // Whether the numbers of a listing are within the limits.
 pub fn within_limits(t: Listing) -> bool
@@ -37,16 +27,15 @@ pub fn within_limits(t: Listing) -> bool
     t.dichotomies <= rules::MOST_DICHOTOMIES
 }
 
-// Whether each group is a set of the states.
-pub fn groups_within(t: Listing) -> bool
-    requires { ⌜ withinLimits t ≡ true ⌝ }
-    ensures { λ r. ⌜ r ≡ each (groupWithin (t .head .states)) (rowsOf t) ⌝ }
+// Whether each group is a set of the states, which are those of `all`. The table comes without its listing, so that no other copy of that is made.
+pub fn groups_within(all: u64, rows: usize, table: [Row; rules::MOST_ROWS]) -> bool
+    requires { ⌜ rows ≤ most-rows ⌝ }
+    ensures { λ r. ⌜ r ≡ each (groupUnder all) (take rows table) ⌝ }
 {
-    let n = t.head.states;
     let mut i: usize = 0;
-    while i < t.rows {
-        let row = t.table[i];
-        if !within(n, row.group) {
+    while i < rows {
+        let row = table[i];
+        if all < row.group {
             return false;
         }
         i += 1;
@@ -55,28 +44,31 @@ pub fn groups_within(t: Listing) -> bool
 }
 
 // Whether a dichotomy has two blocks of the states that have none in common.
-fn blocks_within(n: usize, d: Requirement) -> bool
-    ensures { λ r. ⌜ r ≡ blocksWithin n d ⌝ }
+fn blocks_within(all: u64, d: Requirement) -> bool
+    ensures { λ r. ⌜ r ≡ blocksUnder all d ⌝ }
 {
-    if !within(n, d.first) {
+    if all < d.first {
         return false;
     }
-    if !within(n, d.second) {
+    if all < d.second {
         return false;
     }
     d.first & d.second == 0
 }
 
 // Whether each dichotomy has.
-pub fn dichotomies_within(t: Listing) -> bool
-    requires { ⌜ withinLimits t ≡ true ⌝ }
-    ensures { λ r. ⌜ r ≡ each (blocksWithin (t .head .states)) (dichotomiesOf t) ⌝ }
+pub fn dichotomies_within(
+    all: u64,
+    count: usize,
+    asked: [Requirement; rules::MOST_DICHOTOMIES],
+) -> bool
+    requires { ⌜ count ≤ most-dichotomies ⌝ }
+    ensures { λ r. ⌜ r ≡ each (blocksUnder all) (take count asked) ⌝ }
 {
-    let n = t.head.states;
     let mut i: usize = 0;
-    while i < t.dichotomies {
-        let d = t.asked[i];
-        if !blocks_within(n, d) {
+    while i < count {
+        let d = asked[i];
+        if !blocks_within(all, d) {
             return false;
         }
         i += 1;

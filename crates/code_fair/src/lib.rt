@@ -12,8 +12,11 @@ pub fn is_fair(t: Listing) -> bool
     if !checks::within_limits(t) {
         return false;
     }
-    if !checks::groups_within(t) {
+    let all = sets::everyone_of(t.head.states);
+    let table = t.table;
+    if !checks::groups_within(all, t.rows, table) {
         return false;
     }
-    checks::dichotomies_within(t)
+    let asked = t.asked;
+    checks::dichotomies_within(all, t.dichotomies, asked)
 }

@@ -5,48 +5,25 @@ use mathlib.Core.List.{List, [], _∷_, _++_, append-nil}
 use Prim.Native.Nat.{ℕ, _+_, _^_, _≤_, _<_}
 use native.Mathlib.Omega.{arith}
 use lib.ListN.{length, drop, length-append, length-drop}
-use Rattle.rules.specs.Refusals.{number}
 use Rattle.rules.specs.Report.{joinedLines}
 use Rattle.rules.specs.Answers.{Reply, says, refuses, printed}
 use Rattle.rules.specs.Parts.{wholeLines, part, gathered}
 use Rattle.rules.specs.declared.Verdict.{Verdict}
 use Rattle.rules.specs.declared.Refusal.{Refusal}
-use Rattle.rules.proofs.Decimal.{decimal-length}
 use Rattle.rules.proofs.Ended.{no-piece, piece}
 use Rattle.rules.proofs.Parts.{whole-front, part-fits, AllFit, fit-none, fit-more, gathered-all}
 use Rattle.rules.proofs.ReportLines.{refused-ended}
 use Rattle.write_parts.specs.Parts.{begun, added, addedAll, longest-line}
 use Rattle.write_parts.proofs.Adding.{Lent, all-one}
 use Rattle.write_parts.proofs.Parted.{Made, made}
-use Rattle.write_texts.specs.declared.Wanted.{Wanted}
+use Rattle.write_refusal.proofs.Refused.{refusal-length}
 use Rattle.host_replies.specs.Ready.{ready, linesOf, replyOf, longest}
 use Rattle.host_replies.specs.Saying.{replyTo}
 use Rattle.host_replies.specs.declared.Ready.{Ready}
+use Rattle.host_replies.specs.declared.plans.Wanted.{Wanted}
 use Rattle.host_replies.proofs.Replies.{Small, reply-is, reply-small, reply-fits}
 use Rattle.host_replies.proofs.Sayings.{reply-accepted, reply-refused, ready-pieces}
 use Rattle.host_prints.specs.Printing.{readyFor, printing}
-
--- ---- a refusal's line
-
-number-few : (r : Refusal) → number r < 100
-number-few Refusal.BadLine = omega arith
-number-few Refusal.Limit = omega arith
-number-few Refusal.Place = omega arith
-number-few Refusal.EmptyGroup = omega arith
-number-few Refusal.NextState = omega arith
-number-few Refusal.Conflict = omega arith
-number-few Refusal.TooWide = omega arith
-number-few Refusal.Unmet = omega arith
-number-few Refusal.NoRoom = omega arith
-number-few Refusal.BadCall = omega arith
-number-few Refusal.Unstable = omega arith
-number-few Refusal.NoShortCode = omega arith
-number-few Refusal.NoOutputs = omega arith
-
--- by how many digits behind the first the line has
-pub refusal-length : (d : ℕ) (r : Refusal) (k : ℕ) → k < 10 ^ (d + 1) → length (printed (refuses r k)) ≤ d + 8
-unfolding printed
-refusal-length d r k h = simp length-append (omega (arith, decimal-length 1 (number r) (number-few r), decimal-length d k h))
 
 -- ---- what is printed of any value that is ready
 

@@ -7,13 +7,13 @@ use Rattle.rules.specs.Answers.{Reply, printed}
 use Rattle.rules.specs.Parts.{part}
 use Rattle.rules.specs.declared.Verdict.{Verdict}
 use Rattle.rules.specs.declared.Refusal.the-variants.{Limit}
-use Rattle.write_texts.specs.declared.Wanted.{Wanted}
 use Rattle.host_replies.specs.Ready.{ready}
 use Rattle.host_replies.specs.declared.Ready.{Ready}
+use Rattle.host_replies.specs.declared.plans.Wanted.{Wanted}
 
 -- refused 2 at line 0, whatever its bytes
 abbrev pub tooLong : Ready → Ready
-tooLong d = record { wanted = d .wanted; verdict = Verdict.Refused Limit 0; listing = d .listing; encoding = d .encoding }
+tooLong d = record { text = d .text; verdict = Verdict.Refused Limit 0; listing = d .listing; encoding = d .encoding }
 
 unfoldable pub readyFor : Wanted → List ℕ → Bool → Ready
 unfolding ready

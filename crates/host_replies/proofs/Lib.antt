@@ -3,3 +3,5 @@ pub mod Widths
 pub mod Texts
 pub mod Replies
 pub mod Sayings
+pub mod Told
+pub mod Made

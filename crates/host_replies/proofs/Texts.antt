@@ -40,7 +40,7 @@ use Rattle.write_cover.specs.Covers.{Bounded}
 use Rattle.write_cover.proofs.Whole.{cover-bounded}
 use Rattle.write_cover.proofs.Length.{cover-length, cover-fit}
 use Rattle.write_texts.specs.Texts.{textLines}
-use Rattle.write_texts.specs.declared.Wanted.{Wanted}
+use Rattle.write_texts.specs.declared.Text.{Text}
 use Rattle.host_replies.specs.Ready.{longest}
 use Rattle.host_replies.proofs.Encodings.{Whole}
 use Rattle.host_replies.proofs.Widths.{text-is}
@@ -71,15 +71,15 @@ module _ (t : Listing) (c : Code) (e : Encoding) (w : Whole t c e) where
   left : e .unmet ≤ most-asked
   left = omega (arith, few-unmet, w .holds .unmet)
 
-  pub report-few : length (joinedLines (textLines Wanted.Report t e)) ≤ longest
+  pub report-few : length (joinedLines (textLines Text.Report t e)) ≤ longest
   unfolding textLines encodedReport
   report-few = report-length (t .head .states) (allFamilies t) e (w .sound .head .few-states) few-first (w .narrow) asked left (w .few-passes) (w .few-looks)
 
-  pub report-fits : AllFit longest-line (textLines Wanted.Report t e)
+  pub report-fits : AllFit longest-line (textLines Text.Report t e)
   unfolding textLines
   report-fits = report-fit (t .head .states) (allFamilies t) e (w .sound .head .few-states) few-first (w .narrow) asked left (w .few-passes) (w .few-looks)
 
-  pub report-said : says (joinedLines (textLines Wanted.Report t e)) ≡ reportOf t (coded c)
+  pub report-said : says (joinedLines (textLines Text.Report t e)) ≡ reportOf t (coded c)
   unfolding textLines encodedReport reportReply
   report-said = ap says (same-report t is-fair good (w .sound .table) (w .sound .asked) c e (w .holds))
 
@@ -88,7 +88,7 @@ module _ (t : Listing) (c : Code) (e : Encoding) (w : Whole t c e) where
   bounded : Bounded (t .head)
   bounded = record { inputs = w .sound .head .few-inputs; outputs = w .sound .head .few-outputs }
 
-  cover-text : joinedLines (textLines Wanted.Cover t e) ≡ cover t (take (e .width) (e .bits))
+  cover-text : joinedLines (textLines Text.Cover t e) ≡ cover t (take (e .width) (e .bits))
   unfolding textLines cover
   cover-text = ap joinedLines (cover-bounded t (take (e .width) (e .bits)) bounded)
 
@@ -98,10 +98,10 @@ module _ (t : Listing) (c : Code) (e : Encoding) (w : Whole t c e) where
   thin : length (take (e .width) (e .bits)) ≤ most-bits
   thin = omega (arith, length-take (e .width) (e .bits), w .narrow)
 
-  pub cover-few : length (joinedLines (textLines Wanted.Cover t e)) ≤ longest
+  pub cover-few : length (joinedLines (textLines Text.Cover t e)) ≤ longest
   cover-few = omega (arith, ap length cover-text, cover-length t (take (e .width) (e .bits)) bounded short thin)
 
-  pub cover-fits : AllFit longest-line (textLines Wanted.Cover t e)
+  pub cover-fits : AllFit longest-line (textLines Text.Cover t e)
   unfolding textLines
   cover-fits = rw (cover-bounded t (take (e .width) (e .bits)) bounded) (cover-fit t (take (e .width) (e .bits)) bounded short thin)
 
@@ -115,19 +115,19 @@ module _ (t : Listing) (c : Code) (e : Encoding) (w : Whole t c e) where
       ∙ ap (λ (x : Bool). cond x (refuses Unmet 0) (says (cover t (take (e .width) (e .bits))))) q
 
   -- by whether a pair or a group requirement is unmet
-  pub cover-said : (b : Bool) → anyUnmet (firstFamilies t) e ≡ b → cond b (refuses Unmet 0) (says (joinedLines (textLines Wanted.Cover t e))) ≡ coverOf t (coded c)
+  pub cover-said : (b : Bool) → anyUnmet (firstFamilies t) e ≡ b → cond b (refuses Unmet 0) (says (joinedLines (textLines Text.Cover t e))) ≡ coverOf t (coded c)
   cover-said b q = ap (λ (x : List ℕ). cond b (refuses Unmet 0) (says x)) cover-text ∙ sym (cover-as b (sym (same-judged t is-fair good e) ∙ q))
 
   -- ---- what each width buys
 
-  pub widths-few : length (joinedLines (textLines Wanted.Widths t e)) ≤ longest
+  pub widths-few : length (joinedLines (textLines Text.Widths t e)) ≤ longest
   unfolding textLines encodedWidths
   widths-few = omega (arith, widths-length (allFamilies t) (length (firstFamilies t)) e (w .narrow) few-first)
 
-  pub widths-fits : AllFit longest-line (textLines Wanted.Widths t e)
+  pub widths-fits : AllFit longest-line (textLines Text.Widths t e)
   unfolding textLines
   widths-fits = widths-fit (allFamilies t) (length (firstFamilies t)) e (w .narrow) few-first
 
-  pub widths-said : coding t ≡ coded c → t .head .width ≡ most-bits → joinedLines (textLines Wanted.Widths t e) ≡ widths t
+  pub widths-said : coding t ≡ coded c → t .head .width ≡ most-bits → joinedLines (textLines Text.Widths t e) ≡ widths t
   unfolding textLines encodedWidths
   widths-said is wide = text-is t c e w is wide

@@ -7,19 +7,23 @@ use lib.ListN.{length, drop}
 use Rattle.rules.specs.Answers.{Reply, says, refuses, reportReply, coverReply}
 use Rattle.rules.specs.Widths.{widthsReply}
 use Rattle.rules.specs.Least.{leastReply, leastCoverReply}
+use Rattle.rules.specs.KissAnswers.{kissReportReply, kissCoverReply, kissListingReply}
 use Rattle.rules.specs.Parts.{part, getsOn}
 use Rattle.rules.specs.declared.Refusal.the-variants.{NoRoom}
-use Rattle.write_texts.specs.declared.Wanted.{Wanted}
+use Rattle.host_replies.specs.declared.plans.Wanted.{Wanted}
 use Rattle.host_replies.specs.declared.Said.{Said}
 
 -- the reply of 01 and 02 to what is wanted, of any bytes
 unfoldable pub replyTo : Wanted → List ℕ → Reply
-unfolding reportReply coverReply widthsReply leastReply leastCoverReply
+unfolding reportReply coverReply widthsReply leastReply leastCoverReply kissReportReply kissCoverReply kissListingReply
 replyTo Wanted.Report s = reportReply s
 replyTo Wanted.Cover s = coverReply s
 replyTo Wanted.Widths s = widthsReply s
 replyTo Wanted.Least s = leastReply s
 replyTo Wanted.LeastCover s = leastCoverReply s
+replyTo Wanted.KissReport s = kissReportReply s
+replyTo Wanted.KissCover s = kissCoverReply s
+replyTo Wanted.KissListing s = kissListingReply s
 
 -- The text where it fits, with the bytes behind it as they came; where not, 10, and where it is refused, that: the buffer is then as it came.
 unfoldable pub saying : Reply → List ℕ → Said × List ℕ

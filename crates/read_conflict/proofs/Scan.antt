@@ -1,11 +1,11 @@
 -- The scan for two rows that clash, row by row.
 use mathlib.Core.Path.{_≡_, refl, ap, _∙_}
 use mathlib.Core.Bool.{Bool, true, false, _&&_, not, cond}
-use mathlib.Core.List.{List, _∷_}
+use mathlib.Core.List.{List, [], _∷_}
 use Prim.Native.Nat.{ℕ, _+_, _≤_, _<_}
-use lib.ListN.{length, getD, drop}
+use lib.ListN.{length, getD, take, drop}
 use lib.Dec.{eqb}
-use Rattle.rules.specs.Listing.{noRow, rowsOf, meets, clash, clashWith, orElse, conflict}
+use Rattle.rules.specs.Listing.{noRow, blank, meets, clash, clashWith, orElse, conflict}
 use Rattle.rules.specs.declared.Listing.{Listing}
 use Rattle.rules.specs.declared.Row.{Row}
 use Rattle.rules.specs.declared.Refusal.the-variants.{Conflict}
@@ -30,21 +30,25 @@ with-cons a b bs e = go (clash a b) ∙ ap (λ (t : Bool). cond t (Verdict.Refus
     go true = refl
     go false = refl
 
--- the rows of a listing, of which there are n
-module _ (t : Listing) (n : ℕ) (all : length (rowsOf t) ≡ n) where
-  pub with-here : (a : Row) (j : ℕ) {b : Bool} → j < n → clash a (getD (t .table) j noRow) ≡ b
-      → clashWith a (drop j (rowsOf t)) ≡ cond b (Verdict.Refused Conflict (getD (t .table) j noRow .line)) (clashWith a (drop (j + 1) (rowsOf t)))
-  with-here a j h e = ap (clashWith a) (row-here t n all j h) ∙ with-cons a (getD (t .table) j noRow) (drop (j + 1) (rowsOf t)) e
+-- the first rows of a table, of which there are n
+module _ (rows : ℕ) (table : List Row) (n : ℕ) (all : length (take rows table) ≡ n) where
+  -- a listing that has them
+  abbrev listed : Listing
+  listed = record { head = blank .head; rows = rows; table = table; dichotomies = 0; asked = []; said = []; given = 0 }
 
-  pub with-none : (a : Row) (j : ℕ) → n ≤ j → clashWith a (drop j (rowsOf t)) ≡ Verdict.Accepted
+  pub with-here : (a : Row) (j : ℕ) {b : Bool} → j < n → clash a (getD table j noRow) ≡ b
+      → clashWith a (drop j (take rows table)) ≡ cond b (Verdict.Refused Conflict (getD table j noRow .line)) (clashWith a (drop (j + 1) (take rows table)))
+  with-here a j h e = ap (clashWith a) (row-here listed n all j h) ∙ with-cons a (getD table j noRow) (drop (j + 1) (take rows table)) e
+
+  pub with-none : (a : Row) (j : ℕ) → n ≤ j → clashWith a (drop j (take rows table)) ≡ Verdict.Accepted
   unfolding clashWith
-  with-none a j h = rw (row-none t n all j h)
+  with-none a j h = rw (row-none listed n all j h)
 
-  pub conflict-here : (i : ℕ) {v : Verdict} → i < n → clashWith (getD (t .table) i noRow) (drop (i + 1) (rowsOf t)) ≡ v
-      → conflict (drop i (rowsOf t)) ≡ orElse v (conflict (drop (i + 1) (rowsOf t)))
+  pub conflict-here : (i : ℕ) {v : Verdict} → i < n → clashWith (getD table i noRow) (drop (i + 1) (take rows table)) ≡ v
+      → conflict (drop i (take rows table)) ≡ orElse v (conflict (drop (i + 1) (take rows table)))
   unfolding conflict
-  conflict-here i h e = rw (row-here t n all i h, e)
+  conflict-here i h e = rw (row-here listed n all i h, e)
 
-  pub conflict-none : (i : ℕ) → n ≤ i → conflict (drop i (rowsOf t)) ≡ Verdict.Accepted
+  pub conflict-none : (i : ℕ) → n ≤ i → conflict (drop i (take rows table)) ≡ Verdict.Accepted
   unfolding conflict
-  conflict-none i h = rw (row-none t n all i h)
+  conflict-none i h = rw (row-none listed n all i h)

@@ -1,7 +1,7 @@
 // The scan for two rows that clash.
 ghost use mathlib.Core.Path.{_≡_};
-ghost use Rattle.rules.specs.Listing.{clash, conflict, rowsOf};
-use rules::Listing;
+ghost use lib.ListN.{take};
+ghost use Rattle.rules.specs.Listing.{clash, conflict};
 use rules::Refusal;
 use rules::Row;
 use rules::Verdict;
@@ -23,17 +23,17 @@ fn clashes(a: Row, b: Row) -> bool
 }
 
 // The first pair of rows that clash, by the earlier row and then the later one: refused at the later row's line.
-pub fn first_clash(t: Listing) -> Verdict
-    ensures { λ r. ⌜ r ≡ conflict (rowsOf t) ⌝ }
+pub fn first_clash(rows: usize, table: [Row; rules::MOST_ROWS]) -> Verdict
+    ensures { λ r. ⌜ r ≡ conflict (take rows table) ⌝ }
 {
-    let n = sets::least(t.rows, rules::MOST_ROWS);
+    let n = sets::least(rows, rules::MOST_ROWS);
     let mut found = Verdict::Accepted;
     let mut i: usize = 0;
     'pairs: while i < n {
-        let a = t.table[i];
+        let a = table[i];
         let mut j = i + 1;
         while j < n {
-            let b = t.table[j];
+            let b = table[j];
             if clashes(a, b) {
                 found = Verdict::Refused(Refusal::Conflict, b.line);
                 break 'pairs;

@@ -10,49 +10,48 @@ use lib.Dec.{eqb}
 use Rattle.sets.specs.Sets.{has, every}
 use Rattle.sets.proofs.Every.{every-at, at-every}
 use Rattle.rules.specs.Text.{linesOf, markOf, markIs}
-use Rattle.rules.specs.Listing.{placed, rowsOf, accepted, refused, complete, ended, unended, orElse, conflict, judged, checked}
+use Rattle.rules.specs.Listing.{placed, accepted, refused, nothing, complete, ended, unended, conflict, checked}
 use Rattle.rules.specs.declared.Head.{Head}
 use Rattle.rules.specs.declared.Listing.{Listing}
 use Rattle.rules.specs.declared.Refusal.the-variants.{BadLine, Place, NoOutputs}
 use Rattle.rules.specs.declared.Verdict.{Verdict}
 use Rattle.read_pieces.proofs.Laws.{part}
 use Rattle.read_pieces.proofs.Nothing.{none-behind, some-behind}
-use Rattle.read_listing.specs.Says.{outputsVerdict}
-use Rattle.read_listing.proofs.Whole.{checked-refused, checked-accepted}
+use Rattle.read_listing.specs.Says.{outputsVerdict, endVerdict}
+use Rattle.read_listing.proofs.Whole.{made}
 
--- ---- bytes behind `EN`
+-- ---- behind `EN`: 3, then 17
 
--- the bytes from a on
-pub ended-is : (k : ℕ) (t : Listing) (s : List ℕ) (a : ℕ) → ended k t (linesOf (drop a s)) ≡ ended k t (linesOf (part s a (length s)))
-ended-is k t s a =
-    let n : length (drop a s) ≤ length s - a = omega (arith, length-drop a s) in
-    rw (take-all (length s - a) (drop a s) n)
+pub end-more : (k : ℕ) (h : Head) (given : ℕ) (s : List ℕ) → (length s ≡ 0 → ⊥) → Verdict.Refused Place (k + 1) ≡ endVerdict k h given (linesOf s)
+unfolding endVerdict
+end-more k h given s o = rw (some-behind s o)
 
--- ---- behind `EN`: 3, then 17, then the listing is judged
+pub end-here : (k : ℕ) (h : Head) (given : ℕ) (s : List ℕ) → length s ≡ 0 → outputsVerdict k h given ≡ endVerdict k h given (linesOf s)
+unfolding endVerdict
+end-here k h given s e = rw (none-behind s e)
 
-module _ (k : ℕ) (t : Listing) (s : List ℕ) where
-  pub ended-more : (length s ≡ 0 → ⊥) → ended k t (linesOf s) ≡ refused Place (k + 1)
-  unfolding ended
-  ended-more h = rw (some-behind s h)
-
-  ended-here : {b : Bool} → length s ≡ 0 → complete (t .head) (t .given) ≡ b → ended k t (linesOf s) ≡ cond b (accepted t) (refused NoOutputs k)
-  unfolding ended
-  ended-here h e = rw (none-behind s h, e)
-
--- 17 before 6
 pub verdict-by : (k : ℕ) (h : Head) (given : ℕ) {b : Bool} → complete h given ≡ b → outputsVerdict k h given ≡ cond b Verdict.Accepted (Verdict.Refused NoOutputs k)
 unfolding outputsVerdict
 verdict-by k h given e = rw e
 
-pub judged-here : (k : ℕ) (t : Listing) (s : List ℕ) {v : Verdict} → length s ≡ 0 → v ≡ orElse (outputsVerdict k (t .head) (t .given)) (conflict (rowsOf t)) → checked (ended k t (linesOf s)) ≡ judged v t
-unfolding refused
-judged-here k t s {v} h e = go (complete (t .head) (t .given)) refl
+-- the listing as it stands then, with that verdict
+pub ended-checked : (k : ℕ) (t : Listing) (rest : List (List ℕ)) → checked (made (endVerdict k (t .head) (t .given) rest) t) ≡ checked (ended k t rest)
+unfolding endVerdict outputsVerdict ended refused conflict
+ended-checked k t rest = go (nothing rest) (complete (t .head) (t .given))
   where
-    go : (b : Bool) → complete (t .head) (t .given) ≡ b → checked (ended k t (linesOf s)) ≡ judged v t
-    go true q = ap checked (ended-here k t s h q) ∙ checked-accepted t (e ∙ ap (λ (m : Verdict). orElse m (conflict (rowsOf t))) (verdict-by k (t .head) (t .given) q))
-    go false q =
-        ap checked (ended-here k t s h q) ∙ checked-refused NoOutputs k
-        ∙ sym (ap (λ (w : Verdict). judged w t) (e ∙ ap (λ (m : Verdict). orElse m (conflict (rowsOf t))) (verdict-by k (t .head) (t .given) q)))
+    go : (b c : Bool)
+        → checked (made (cond b (cond c Verdict.Accepted (Verdict.Refused NoOutputs k)) (Verdict.Refused Place (k + 1))) t)
+        ≡ checked (cond b (cond c (accepted t) (refused NoOutputs k)) (refused Place (k + 1)))
+    go true true = refl
+    go true false = refl
+    go false c = refl
+
+-- the bytes from a on
+pub end-at : (k : ℕ) (t : Listing) (s : List ℕ) (a : ℕ) {v : Verdict} → v ≡ endVerdict k (t .head) (t .given) (linesOf (part s a (length s))) → checked (made v t) ≡ checked (ended k t (linesOf (drop a s)))
+end-at k t s a e =
+    let n : length (drop a s) ≤ length s - a = omega (arith, length-drop a s) in
+    ap (λ (v : Verdict). checked (made v t)) (e ∙ ap (λ (l : List ℕ). endVerdict k (t .head) (t .given) (linesOf l)) (take-all (length s - a) (drop a s) n))
+    ∙ ended-checked k t (linesOf (drop a s))
 
 -- ---- a state without outputs
 
@@ -76,23 +75,27 @@ module _ (h : Head) (given : ℕ) where
 -- ---- a line without LF
 
 module _ (k : ℕ) (h : Head) (given : ℕ) where
-  pub unended-none : (l : List ℕ) → length l ≡ 0 → unended k h given l ≡ refused Place k
-  unfolding unended
+  pub unended-none : (l : List ℕ) → length l ≡ 0 → Verdict.Refused Place k ≡ unended k h given l .verdict
+  unfolding unended refused
   unended-none [] e = refl
   unended-none (x ∷ xs) e = absurd (omega arith)
 
   pub unended-some : (l : List ℕ) {b : Bool} → (length l ≡ 0 → ⊥) → placed (markIs (markOf l)) k h given l ≡ b
-      → unended k h given l ≡ cond b (refused BadLine k) (refused Place k)
-  unfolding unended
+      → cond b (Verdict.Refused BadLine k) (Verdict.Refused Place k) ≡ unended k h given l .verdict
+  unfolding unended refused
   unended-some [] o e = absurd (o refl)
-  unended-some (x ∷ xs) o e = rw e
-
-  -- it is refused either way
-  pub checked-unended : (l : List ℕ) → checked (unended k h given l) ≡ unended k h given l
-  unfolding unended
-  checked-unended [] = checked-refused Place k
-  checked-unended (x ∷ xs) = go (placed (markIs (markOf (x ∷ xs))) k h given (x ∷ xs))
+  unended-some (x ∷ xs) {b} o e = rw e (go b)
     where
-      go : (b : Bool) → checked (cond b (refused BadLine k) (refused Place k)) ≡ cond b (refused BadLine k) (refused Place k)
-      go true = checked-refused BadLine k
-      go false = checked-refused Place k
+      go : (b : Bool) → cond b (Verdict.Refused BadLine k) (Verdict.Refused Place k) ≡ cond b (refused BadLine k) (refused Place k) .verdict
+      go true = refl
+      go false = refl
+
+  -- it is refused either way, and the listing is of no account
+  pub unended-checked : (t : Listing) (l : List ℕ) {v : Verdict} → v ≡ unended k h given l .verdict → checked (made v t) ≡ checked (unended k h given l)
+  unfolding unended refused conflict
+  unended-checked t [] e = ap (λ (v : Verdict). checked (made v t)) e
+  unended-checked t (x ∷ xs) e = ap (λ (v : Verdict). checked (made v t)) e ∙ go (placed (markIs (markOf (x ∷ xs))) k h given (x ∷ xs))
+    where
+      go : (b : Bool) → checked (made (cond b (refused BadLine k) (refused Place k) .verdict) t) ≡ checked (cond b (refused BadLine k) (refused Place k))
+      go true = refl
+      go false = refl

@@ -1,15 +1,15 @@
 -- A listing that is a flow table: what its reader answers, under its head, is what the rules read, and it has no rows to clash.
-use mathlib.Core.Path.{_≡_, refl, sym, ap, _∙_}
-use mathlib.Core.Bool.{Bool, true, false, _&&_, cond}
+use mathlib.Core.Path.{_≡_, refl, sym, ap, _∙_, subst}
+use mathlib.Core.Bool.{Bool, true, false, _&&_, cond, false≢true}
 use mathlib.Core.List.{List, [], _∷_}
-use Prim.Native.Nat.{ℕ, _+_, _-_, _≤_, _<_}
+use Prim.Native.Nat.{ℕ, min, _+_, _-_, _≤_, _<_}
 use native.Mathlib.Omega.{arith}
 use lib.ListN.{length, getD, take, drop}
 use lib.Dec.{leb}
-use lib.Seq.{take-all}
+use borrow.Author.Tests.{leb-true, leb-false}
 use Rattle.sets.specs.Sets.{statesFrom}
 use Rattle.rules.specs.Limits.{most-dichotomies}
-use Rattle.rules.specs.Text.{bytes, same, lf, linesOf, markOf, markIs}
+use Rattle.rules.specs.Text.{bytes, same, split, lf, linesOf, markOf, markIs}
 use Rattle.rules.specs.Lines.{headLine}
 use Rattle.rules.specs.FlowTable.{flowAsks, stability}
 use Rattle.rules.specs.FlowLines.{flowHead, columnCount, columnsOf, FlowStep, flowGoes, flowEnds, flowStops, flowPlaced}
@@ -31,9 +31,6 @@ use Rattle.read_flow.specs.declared.Flow.{Flow}
 use Rattle.read_flow.specs.Flows.{flowOf, flowTable}
 use Rattle.read_flow.proofs.Ends.{table-read}
 use Rattle.read_listing.specs.Says.{flowListing, readingOf}
-use Rattle.read_listing.proofs.Whole.{checked-refused, checked-accepted}
-use Rattle.read_listing.proofs.Ends.{checked-unended}
-use Rattle.read_listing.proofs.Steps.{read-last}
 
 -- ---- the head
 
@@ -48,22 +45,13 @@ module _ (l m : List ℕ) where
 
 -- ---- what is read
 
-pub reading-refused : (h : Head) (f : Flow) {r : Refusal} {k : ℕ} → f .verdict ≡ Verdict.Refused r k → readingOf h f ≡ refused r k
-unfolding readingOf
-reading-refused h f e = rw (e, readingOf)
-
-pub reading-accepted : (h : Head) (f : Flow) → f .verdict ≡ Verdict.Accepted → readingOf h f ≡ accepted (flowListing h f)
-unfolding readingOf
-reading-accepted h f e = rw (e, readingOf)
-
--- what is read stands as it is: no row clashes, and it is the head with the dichotomies
-record Stands (h : Head) (r : Reading) : Type 0 where
-  checked-so : checked r ≡ r
-  read-so : readingOf h (flowOf r) ≡ r
+-- what is read is the head with the dichotomies, which has no row to clash
+abbrev Stands : Head → Reading → Type 0
+Stands h r = checked (readingOf h (flowOf r)) ≡ checked r
 
 refused-stands : (h : Head) (f : Refusal) (k : ℕ) → Stands h (refused f k)
-unfolding refused readingOf
-refused-stands h f k = record { checked-so = checked-refused f k; read-so = refl }
+unfolding refused readingOf conflict
+refused-stands h f k = refl
 
 -- the dichotomies alone are added
 only-asked : (ds : List Requirement) (t : Listing)
@@ -81,19 +69,9 @@ unfolding withDichotomies
 only-asked [] t = refl
 only-asked (d ∷ ds) t = only-asked ds (withDichotomy d t)
 
-no-rows : (t : Listing) → t .rows ≡ 0 → conflict (rowsOf t) ≡ Verdict.Accepted
-unfolding conflict
-no-rows t e = rw e
-
 accepted-stands : (h : Head) (ds : List Requirement) → Stands h (accepted (withDichotomies ds (withHead h blank)))
 unfolding readingOf flowListing blank
-accepted-stands h ds =
-    let t = withDichotomies ds (withHead h blank) in
-    let same = only-asked ds (withHead h blank) in
-    record {
-      checked-so = checked-accepted t (sym (no-rows t (ap (λ (t : Listing). t .rows) same)));
-      read-so = ap accepted (sym same);
-    }
+accepted-stands h ds = ap (λ (t : Listing). checked (accepted t)) (sym (only-asked ds (withHead h blank)))
 
 -- ---- the lines
 
@@ -147,14 +125,21 @@ lines-stand k h all (l ∷ (m ∷ ms)) = rw (flow-on k h all l m ms) (go (flowSt
 all-last : (s : List ℕ) (r : ℕ) → Cut lf s 0 r → length s ≤ r → readAll (linesOf s) ≡ readLines 1 blank (linesOf s)
 all-last s r c h = ap readAll (c .last h) ∙ all-one (part s 0 r) ∙ ap (readLines 1 blank) (sym (c .last h))
 
-pub broken : (s : List ℕ) (r : ℕ) → Cut lf s 0 r → length s ≤ r → unended 1 (blank .head) 0 s ≡ checked (readAll (linesOf s))
-unfolding blank
-broken s r c h =
-    sym (checked-unended 1 (blank .head) 0 s)
-    ∙ ap checked (ap (unended 1 (blank .head) 0) (sym (take-all (length s - 0) s (omega arith))) ∙ sym (read-last 1 blank s 0 r c h) ∙ sym (all-last s r c h))
+-- nothing begins no flow table
+none-begins : (l : List ℕ) (h : Head) → flowHead l [] ≡ HeadLine.Read h → ⊥
+unfolding flowHead markOf split same
+none-begins l h = go (same (markOf l) (bytes "MC"))
+  where
+    told : HeadLine → Bool
+    told (HeadLine.Read h) = true
+    told (HeadLine.Refused r) = false
 
+    go : (a : Bool) → cond (a && false) (headLine false l) (HeadLine.Refused Place) ≡ HeadLine.Read h → ⊥
+    go true e = false≢true (ap told e)
+    go false e = false≢true (ap told e)
+
+-- a line that LF ends, and what stands behind it
 module _ (s : List ℕ) (r q : ℕ) (c : Cut lf s 0 r) (d : Cut lf s (r + 1) q) (h : r < length s) where
-  -- two lines at least
   two-lines : (x : HeadLine) → flowHead (part s 0 r) (part s (r + 1) q) ≡ x → readAll (linesOf s) ≡ readBy x (part s 0 r) (linesOf (drop (r + 1) s))
   two-lines x e = ap readAll (c .more h) ∙ first (linesOf (drop (r + 1) s)) (split-some lf (drop (r + 1) s)) (piece-first lf s (r + 1) q d)
     where
@@ -163,17 +148,46 @@ module _ (s : List ℕ) (r q : ℕ) (c : Cut lf s 0 r) (d : Cut lf s (r + 1) q) 
       first (m ∷ ms) l p = all-two (part s 0 r) m ms ∙ ap (λ (y : HeadLine). readBy y (part s 0 r) (m ∷ ms)) (ap (flowHead (part s 0 r)) p ∙ e)
 
   -- an ordinary listing
-  pub all-ordinary : {e : Refusal} → flowHead (part s 0 r) (part s (r + 1) q) ≡ HeadLine.Refused e → readAll (linesOf s) ≡ readLines 1 blank (linesOf s)
+  two-ordinary : {e : Refusal} → flowHead (part s 0 r) (part s (r + 1) q) ≡ HeadLine.Refused e → readAll (linesOf s) ≡ readLines 1 blank (linesOf s)
   unfolding readBy
-  all-ordinary {e} f = two-lines (HeadLine.Refused e) f ∙ ap (readLines 1 blank) (sym (c .more h))
+  two-ordinary {e} f = two-lines (HeadLine.Refused e) f ∙ ap (readLines 1 blank) (sym (c .more h))
 
   -- a flow table
-  pub all-flow : (g : Head) → flowHead (part s 0 r) (part s (r + 1) q) ≡ HeadLine.Read g
-      → checked (readAll (linesOf s)) ≡ readingOf g (flowOf (flowTable g (part s (r + 1) (length s))))
+  two-flow : (g : Head) → flowHead (part s 0 r) (part s (r + 1) q) ≡ HeadLine.Read g
+      → checked (readAll (linesOf s)) ≡ checked (readingOf g (flowOf (flowTable g (part s (r + 1) (length s)))))
   unfolding readBy
-  all-flow g f =
+  two-flow g f =
       let sound = head-sound false (part s 0 r) g (flow-head (part s 0 r) (part s (r + 1) q) g f) in
       let rest = linesOf (drop (r + 1) s) in
-      let stands = lines-stand 2 g rest rest in
-      ap checked (two-lines (HeadLine.Read g) f) ∙ stands .checked-so ∙ sym (stands .read-so)
-      ∙ ap (λ (x : Reading). readingOf g (flowOf x)) (sym (ap (flowTable g) (rest-all s (r + 1)) ∙ table-read g (drop (r + 1) s) (sound .some-states) (sound .few-states)))
+      ap checked (two-lines (HeadLine.Read g) f) ∙ sym (lines-stand 2 g rest rest)
+      ∙ ap (λ (x : Reading). checked (readingOf g (flowOf x))) (sym (ap (flowTable g) (rest-all s (r + 1)) ∙ table-read g (drop (r + 1) s) (sound .some-states) (sound .few-states)))
+
+-- the first line, and what stands behind it, if anything does
+module _ (s : List ℕ) (r a q : ℕ) (c : Cut lf s 0 r) (d : Cut lf s a q) (at : a ≡ min (r + 1) (length s)) where
+  -- LF ends it, or nothing stands behind it
+  next-or-none : {C : Type 0} → (a ≡ r + 1 → r < length s → C) → (length s ≤ r → part s a q ≡ [] → C) → C
+  next-or-none {C} more last = go (leb (length s) r) refl
+    where
+      go : (b : Bool) → leb (length s) r ≡ b → C
+      go true e =
+          let l : length s ≤ r = leb-true (length s) r e in
+          let z : q - a ≡ 0 = omega (arith, d .to, at) in
+          last l (ap (λ (n : ℕ). take n (drop a s)) z)
+      go false e =
+          let l : r < length s = leb-false (length s) r e in
+          more (omega (arith, at)) l
+
+  pub all-ordinary : {e : Refusal} → flowHead (part s 0 r) (part s a q) ≡ HeadLine.Refused e → readAll (linesOf s) ≡ readLines 1 blank (linesOf s)
+  all-ordinary {e} f =
+      next-or-none
+      (λ n l. two-ordinary s r q c (subst (λ (x : ℕ). Cut lf s x q) n d) l (subst (λ (x : ℕ). flowHead (part s 0 r) (part s x q) ≡ HeadLine.Refused e) n f))
+      (λ l n. all-last s r c l)
+
+  pub all-flow : (g : Head) → flowHead (part s 0 r) (part s a q) ≡ HeadLine.Read g
+      → checked (readAll (linesOf s)) ≡ checked (readingOf g (flowOf (flowTable g (part s a (length s)))))
+  all-flow g f =
+      next-or-none
+      (λ n l.
+      subst (λ (x : ℕ). checked (readAll (linesOf s)) ≡ checked (readingOf g (flowOf (flowTable g (part s x (length s)))))) (sym n)
+      (two-flow s r q c (subst (λ (x : ℕ). Cut lf s x q) n d) l g (subst (λ (x : ℕ). flowHead (part s 0 r) (part s x q) ≡ HeadLine.Read g) n f)))
+      (λ l n. absurd (none-begins (part s 0 r) g (sym (ap (flowHead (part s 0 r)) n) ∙ f)))

@@ -9,15 +9,17 @@ use lib.ListN.{length, drop}
 use borrow.Author.Tests.{le-leb, lt-leb}
 use Rattle.rules.specs.Limits.{most-bytes, most-small}
 use Rattle.rules.specs.Text.{lf, linesOf}
-use Rattle.rules.specs.Listing.{blank, refused, Step, goes, ends, stops, lineStep, reading}
+use Rattle.rules.specs.Listing.{blank, refused, Step, goes, ends, stops, lineStep, readAll, checked, reading}
 use Rattle.rules.specs.Least.{beginsLarge, smallReading}
 use Rattle.rules.specs.declared.Head.{Head}
 use Rattle.rules.specs.declared.Listing.{Listing}
 use Rattle.rules.specs.declared.Reading.{Reading}
+use Rattle.rules.specs.declared.Refusal.{Refusal}
 use Rattle.rules.specs.declared.Refusal.the-variants.{Limit}
+use Rattle.rules.specs.declared.Verdict.{Verdict}
 use Rattle.read_pieces.proofs.Laws.{part, Cut, split-some}
 use Rattle.read_listing.specs.declared.says.Said.{Said}
-use Rattle.read_listing.specs.Says.{stepOf, lineSays, statesSaid}
+use Rattle.read_listing.specs.Says.{stepOf, lineSays, statesSaid, firstVerdict}
 use Rattle.read_listing.proofs.Saying.{says-step}
 
 -- a step that made a listing of more states
@@ -57,17 +59,43 @@ large-none s r c h = sym (ap beginsLarge (c .last h))
 
 -- ---- the whole
 
-pub short-large : (s : List ℕ) → length s ≤ most-bytes → {b : Bool} → b ≡ beginsLarge (linesOf s) → b ≡ (leb (length s) most-bytes && beginsLarge (linesOf s))
-short-large s h e = e ∙ sym (ap (λ (a : Bool). a && beginsLarge (linesOf s)) (le-leb (length s) most-bytes h))
-
-pub long-not : (s : List ℕ) → most-bytes < length s → false ≡ (leb (length s) most-bytes && beginsLarge (linesOf s))
-long-not s h = sym (ap (λ (a : Bool). a && beginsLarge (linesOf s)) (lt-leb (length s) most-bytes h))
-
-abbrev pub isLarge : List ℕ → Bool
-isLarge s = leb (length s) most-bytes && beginsLarge (linesOf s)
+-- what is refused before the lines, or else x
+abbrev begun : Verdict → Reading → Reading
+unfolding refused
+begun v x = elim v [ Verdict.Accepted ↦ x | Verdict.Refused r k ↦ refused r k ]
 
 -- of a small machine, or of any
-pub as-small : (s : List ℕ) (small b : Bool) → b ≡ (small && isLarge s) → cond b (refused Limit 1) (reading s) ≡ cond small (smallReading s) (reading s)
-unfolding smallReading
-as-small s true b e = ap (λ (x : Bool). cond x (refused Limit 1) (reading s)) e
-as-small s false b e = ap (λ (x : Bool). cond x (refused Limit 1) (reading s)) e
+begun-so : (s : List ℕ) (small : Bool) → begun (firstVerdict small s) (checked (readAll (linesOf s))) ≡ cond small (smallReading s) (reading s)
+unfolding firstVerdict smallReading reading refused
+begun-so s small = go (leb (length s) most-bytes) small (beginsLarge (linesOf s))
+  where
+    go : (b small g : Bool)
+        → begun (cond b (cond small (cond g (Verdict.Refused Limit 1) Verdict.Accepted) Verdict.Accepted) (Verdict.Refused Limit 0)) (checked (readAll (linesOf s)))
+        ≡ cond small (cond (b && g) (refused Limit 1) (cond b (checked (readAll (linesOf s))) (refused Limit 0))) (cond b (checked (readAll (linesOf s))) (refused Limit 0))
+    go true true true = refl
+    go true true false = refl
+    go true false g = refl
+    go false true g = refl
+    go false false g = refl
+
+module _ (s : List ℕ) (small : Bool) where
+  pub begun-refused : {r : Refusal} {k : ℕ} → Verdict.Refused r k ≡ firstVerdict small s → refused r k ≡ cond small (smallReading s) (reading s)
+  unfolding refused begun
+  begun-refused e = ap (λ (v : Verdict). begun v (checked (readAll (linesOf s)))) e ∙ begun-so s small
+
+  pub begun-read : Verdict.Accepted ≡ firstVerdict small s → checked (readAll (linesOf s)) ≡ cond small (smallReading s) (reading s)
+  unfolding begun
+  begun-read e = ap (λ (v : Verdict). begun v (checked (readAll (linesOf s)))) e ∙ begun-so s small
+
+  -- the verdict, one test after the other
+  pub first-long : most-bytes < length s → Verdict.Refused Limit 0 ≡ firstVerdict small s
+  unfolding firstVerdict
+  first-long h = rw (lt-leb (length s) most-bytes h)
+
+  pub first-any : length s ≤ most-bytes → small ≡ false → Verdict.Accepted ≡ firstVerdict small s
+  unfolding firstVerdict
+  first-any h e = rw (le-leb (length s) most-bytes h, e)
+
+  pub first-small : {b : Bool} → length s ≤ most-bytes → small ≡ true → beginsLarge (linesOf s) ≡ b → cond b (Verdict.Refused Limit 1) Verdict.Accepted ≡ firstVerdict small s
+  unfolding firstVerdict
+  first-small h e g = rw (le-leb (length s) most-bytes h, e, g)

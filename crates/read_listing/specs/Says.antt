@@ -1,16 +1,20 @@
 -- What a line does to a listing, said without the listing: the reader keeps its one listing where it lies, and adds to it there.
-use mathlib.Core.Bool.{true, false, cond}
+use mathlib.Core.Bool.{Bool, true, false, cond}
 use mathlib.Core.List.{List}
-use Prim.Native.Nat.{ℕ}
-use Rattle.rules.specs.Text.{markOf, markIs}
+use Prim.Native.Nat.{ℕ, _+_}
+use lib.Dec.{leb}
+use lib.ListN.{length}
+use Rattle.rules.specs.Limits.{most-bytes}
+use Rattle.rules.specs.Text.{split, linesOf, markOf, markIs}
 use Rattle.rules.specs.Lines.{headLine, rowLine, dichotomyLine, outputsLine, endLine}
-use Rattle.rules.specs.Listing.{blank, withHead, withRow, withDichotomy, withOutputs, accepted, refused, placed, Step, goes, ends, stops, complete}
+use Rattle.rules.specs.Listing.{blank, withHead, withRow, withDichotomy, withOutputs, placed, Step, goes, ends, stops, nothing, complete}
+use Rattle.rules.specs.Least.{beginsLarge}
 use Rattle.rules.specs.declared.Head.{Head}
 use Rattle.rules.specs.declared.Listing.{Listing}
 use Rattle.rules.specs.declared.Mark.{Mark}
 use Rattle.rules.specs.declared.Mark.the-variants.{Mc, Mo, Pt, Di, Ou, Ft, En, Unknown}
 use Rattle.rules.specs.declared.Refusal.{Refusal}
-use Rattle.rules.specs.declared.Refusal.the-variants.{BadLine, Place, NoOutputs}
+use Rattle.rules.specs.declared.Refusal.the-variants.{BadLine, Limit, Place, NoOutputs}
 use Rattle.rules.specs.declared.Verdict.{Verdict}
 use Rattle.rules.specs.declared.HeadLine.{HeadLine}
 use Rattle.rules.specs.declared.RowLine.{RowLine}
@@ -91,6 +95,11 @@ unfoldable pub outputsVerdict : ℕ → Head → ℕ → Verdict
 unfolding complete
 outputsVerdict k h given = cond (complete h given) Verdict.Accepted (Verdict.Refused NoOutputs k)
 
+-- and bytes behind it are 3, before that
+unfoldable pub endVerdict : ℕ → Head → ℕ → List (List ℕ) → Verdict
+unfolding nothing outputsVerdict
+endVerdict k h given rest = cond (nothing rest) (outputsVerdict k h given) (Verdict.Refused Place (k + 1))
+
 -- how many states a line names; none where it gives no head
 unfoldable pub statesSaid : Said → ℕ
 statesSaid (Said.Head h) = h .states
@@ -115,6 +124,15 @@ flowListing h f = record {
   given = blank .given;
 }
 
+-- and what was read with it, refused or not
 unfoldable pub readingOf : Head → Flow → Reading
-unfolding refused flowListing
-readingOf h f = elim (f .verdict) [ Verdict.Accepted ↦ accepted (flowListing h f) | Verdict.Refused r k ↦ refused r k ]
+unfolding flowListing
+readingOf h f = record { verdict = f .verdict; listing = flowListing h f }
+
+-- ---- before the lines
+
+-- too many bytes are 2 at line 0; of a small machine, too many states are 2 at line 1
+unfoldable pub firstVerdict : Bool → List ℕ → Verdict
+unfolding beginsLarge split
+firstVerdict small s =
+    cond (leb (length s) most-bytes) (cond small (cond (beginsLarge (linesOf s)) (Verdict.Refused Limit 1) Verdict.Accepted) Verdict.Accepted) (Verdict.Refused Limit 0)

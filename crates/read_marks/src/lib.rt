@@ -10,7 +10,7 @@ use rules::Mark;
 use rules::Refusal;
 
 // Whether a field is the mark m.
-fn is_mark(f: &[u8], m: &[u8; 2]) -> bool
+pub fn is_mark(f: &[u8], m: &[u8; 2]) -> bool
     ensures { λ r. ⌜ r ≡ same (now (f .entry)) (twoOf (now (m .entry))) ⌝ }
 {
     if f.len() != 2 {

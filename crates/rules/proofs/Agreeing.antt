@@ -102,7 +102,7 @@ module _ (h : Head) (rs : List Row) (few : h .inputs ≤ most-inputs) (sound : (
 
 -- ---- what a row's line says of a place
 
-each-state : (f : ℕ → ℕ) (a n j : ℕ) → j < n → getD (map f (statesFrom a n)) j 0 ≡ f (a + j)
+pub each-state : (f : ℕ → ℕ) (a n j : ℕ) → j < n → getD (map f (statesFrom a n)) j 0 ≡ f (a + j)
 unfolding statesFrom
 each-state f a zero j l = absurd (omega arith)
 each-state f a (suc n) zero l = let e : a ≡ a + 0 = omega arith in ap f e
@@ -128,7 +128,7 @@ module _ (h : Head) (bits : List ℕ) (rs : List Row) (r : Row) where
       List·getD-append (digits (nextCode bits (r .next))) (map (outputAt rs r) (statesFrom 0 (h .outputs))) 0 k (omega (arith, code-long))
       ∙ map-at (λ d. nought + d) (nextCode bits (r .next)) k 0 0 (omega (arith, length-map bits (λ b. digit (not (eqb (bitAnd b (r .next)) 0)))))
 
-  bit-place : (k : ℕ) → k < length bits → getD (outputSide h bits rs r) k 0 ≡ nought + digit (not (eqb (bitAnd (getD bits k 0) (r .next)) 0))
+  pub bit-place : (k : ℕ) → k < length bits → getD (outputSide h bits rs r) k 0 ≡ nought + digit (not (eqb (bitAnd (getD bits k 0) (r .next)) 0))
   bit-place k l = code-place k l ∙ ap (λ (d : ℕ). nought + d) (map-at (λ b. digit (not (eqb (bitAnd b (r .next)) 0))) bits k 0 0 l)
 
   -- a row that is left out would say 0 of every place
@@ -144,7 +144,7 @@ module _ (h : Head) (bits : List ℕ) (rs : List Row) (r : Row) where
 
 -- ---- what the lines of a cover say: the rows' lines alone fire
 
-dot-fires : (l cs ds : List ℕ) → fieldAt l 0 ≡ dot ∷ cs → lineFires l ds ≡ false
+pub dot-fires : (l cs ds : List ℕ) → fieldAt l 0 ≡ dot ∷ cs → lineFires l ds ≡ false
 unfolding lineFires takes
 dot-fires l cs ds e = ap (λ (f : List ℕ). takes f ds) e ∙ go ds
   where

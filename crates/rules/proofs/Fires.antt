@@ -95,7 +95,7 @@ and-assoc : (a b c : Bool) → (a && b && c) ≡ (a && (b && c))
 and-assoc true b c = refl
 and-assoc false b c = refl
 
-takes-append : (cs ds es fs : List ℕ) → length cs ≡ length ds → takes (cs ++ es) (ds ++ fs) ≡ (takes cs ds && takes es fs)
+pub takes-append : (cs ds es fs : List ℕ) → length cs ≡ length ds → takes (cs ++ es) (ds ++ fs) ≡ (takes cs ds && takes es fs)
 unfolding takes
 takes-append [] [] es fs e = refl
 takes-append [] (d ∷ ds) es fs e = absurd (omega arith)
@@ -129,7 +129,7 @@ unfolding takes every statesFrom
 takes-states f g p a zero h = refl
 takes-states f g p a (suc n) h = ap₂ _&&_ (h 0 a (omega arith)) (takes-states f g (λ s. p (suc s)) (suc a) n (λ j k e. h (suc j) k (omega arith)))
 
-inputs-take : (r : Row) (i x : ℕ)
+pub inputs-take : (r : Row) (i x : ℕ)
     → takes (map (inputAt r) (statesFrom 0 i)) (vector i x) ≡ every i (λ j. eqb (has (r .input .dashes) j) 1 || eqb (has (r .input .ones) j) (has x j))
 inputs-take r i x = takes-states (inputAt r) (has x) asked 0 i (λ j k e. input-takes r k (has x k) ∙ ap asked (sym e ∙ omega arith))
   where

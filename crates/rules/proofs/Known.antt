@@ -1,4 +1,4 @@
--- P1 to P10 of 01, "Known examples", a sequencer, and Table III of 001: one table, one test that is computed over all of it, and the law that makes it each case's statement.
+-- P1 to P10 of 01, "Known examples", a sequencer, Table III of 001, and some recorded runs: one table, one test that is computed over all of it, and the law that makes it each case's statement.
 use mathlib.Core.Path.{_≡_, refl, ap₂}
 use mathlib.Core.Bool.{Bool, true, false, _&&_}
 use mathlib.Core.List.{List, [], _∷_, map}
@@ -19,6 +19,7 @@ use Rattle.rules.specs.Cover.{face, faceAt}
 use Rattle.rules.specs.Answers.{reportReply, coverReply, printed}
 use Rattle.rules.specs.Widths.{widthsReply}
 use Rattle.rules.specs.Least.{leastReply, leastCoverReply}
+use Rattle.rules.specs.Replay.{replayReply}
 use Rattle.rules.specs.declared.Head.{Head}
 use Rattle.rules.specs.declared.Requirement.{Requirement}
 use Rattle.rules.specs.declared.HeadLine.{HeadLine}
@@ -64,6 +65,8 @@ pub data Case : Type 0 where
   -- the report of a small machine's least code, and the cover in it
   leasts : String → String → Case
   least-covers : String → String → Case
+  -- the replay of a recorded run
+  replays : String → String → String → Case
   -- a first line, and the numbers read
   reads : String → Head → Case
   -- some states' codes, a group as in `PT`, and its face; all that the group asks is met
@@ -152,6 +155,11 @@ cases =
     ∷ least-covers p1 ".i 3\n.o 3\n.type fd\n.p 1\n00- 101\n.e\n"
     ∷ leasts p3 "CT 0 0 0 0 0\nSC 0 -\nEN\n"
     ∷ leasts "MC 7 1 1 0\nXX\n" "NO 2 1\n"
+    ∷ replays p1 "SS 0\nIN 0\nIN 1\nIN 0\nIN 0\nIN x\n" "ST 2 01 1\nST 0 00 0\nST 2 01 1\nNO 14 5\n"
+    ∷ replays p1 "SS 1\nIN 0\nIN 1" "ST 2 01 1\nNO 1 3\n"
+    ∷ replays p1 "SS 3\nIN 0\n" "NO 1 1\n"
+    ∷ replays "MC 1 1 2 0\nPT 0 1 1 1-\nEN\n" "SS 0\nIN 0\n" "ST 0 - 1-\n"
+    ∷ replays p2 "SS 0\nIN 0\n" "NO 9 0\n"
     ∷ []
 
 -- ---- what a case states
@@ -163,6 +171,7 @@ Holds (buys listing text) = printed (widthsReply (bytes listing)) ≡ bytes text
 Holds (gives listing rs) = dichotomiesOf (reading (bytes listing) .listing) ≡ map asked rs
 Holds (leasts listing text) = printed (leastReply (bytes listing)) ≡ bytes text
 Holds (least-covers listing text) = printed (leastCoverReply (bytes listing)) ≡ bytes text
+Holds (replays listing run text) = printed (replayReply (bytes listing) (bytes run)) ≡ bytes text
 Holds (reads line head) = headLine (head .moore) (bytes line) ≡ HeadLine.Read head
 Holds (faces codes group text) =
     (face (length codes) (bitsOf codes) (setOf one (bytes group)) ≡ bytes text)
@@ -187,13 +196,14 @@ sameAsked (x ∷ xs) [] = false
 sameAsked (x ∷ xs) (y ∷ ys) = eqb (x .first) (y .first) && eqb (x .second) (y .second) && sameAsked xs ys
 
 right : Case → Bool
-unfolding same reading sameAsked reportReply coverReply widthsReply leastReply leastCoverReply printed headLine sameHead faceAt allMet groupAsks looksOf metByCode bitsIn setOf
+unfolding same reading sameAsked reportReply coverReply widthsReply leastReply leastCoverReply replayReply printed headLine sameHead faceAt allMet groupAsks looksOf metByCode bitsIn setOf
 right (reports listing text) = same (printed (reportReply (bytes listing))) (bytes text)
 right (covers listing text) = same (printed (coverReply (bytes listing))) (bytes text)
 right (buys listing text) = same (printed (widthsReply (bytes listing))) (bytes text)
 right (gives listing rs) = sameAsked (dichotomiesOf (reading (bytes listing) .listing)) (map asked rs)
 right (leasts listing text) = same (printed (leastReply (bytes listing))) (bytes text)
 right (least-covers listing text) = same (printed (leastCoverReply (bytes listing))) (bytes text)
+right (replays listing run text) = same (printed (replayReply (bytes listing) (bytes run))) (bytes text)
 right (reads line head) = sameHead (headLine (head .moore) (bytes line)) head
 right (faces codes group text) =
     same (face (length codes) (bitsOf codes) (setOf one (bytes group))) (bytes text)
@@ -212,7 +222,7 @@ computed = refl
 
 -- ---- the law
 
-same-eq : (xs ys : List ℕ) → same xs ys ≡ true → xs ≡ ys
+pub same-eq : (xs ys : List ℕ) → same xs ys ≡ true → xs ≡ ys
 unfolding same
 same-eq [] [] e = refl
 same-eq [] (y ∷ ys) e = absurd (let z : _≡_ {A = ℕ} 0 1 = cc in omega arith)
@@ -265,6 +275,7 @@ right-holds (buys listing text) e = same-eq _ _ e
 right-holds (gives listing rs) e = asked-eq _ _ e
 right-holds (leasts listing text) e = same-eq _ _ e
 right-holds (least-covers listing text) e = same-eq _ _ e
+right-holds (replays listing run text) e = same-eq _ _ e
 right-holds (reads line head) e = head-eq _ _ e
 right-holds (faces codes group text) e =
     let a : Bool = same (face (length codes) (bitsOf codes) (setOf one (bytes group))) (bytes text) in

@@ -1,6 +1,8 @@
 pub mod Rows
 pub mod Some
 pub mod Known
+pub mod KissKnown
+pub mod FirstPlace
 pub mod Or
 pub mod Ways
 pub mod Counts
@@ -38,6 +40,7 @@ pub mod Written
 pub mod Codes
 pub mod Columns
 pub mod Least
+pub mod Replay
 pub mod Agreeing
 pub mod Moore
 pub mod Reported
@@ -53,3 +56,17 @@ pub mod Built
 pub mod SoundCode
 pub mod LineNumbers
 pub mod Wholly
+pub mod ListingLength
+pub mod Numerals
+pub mod WrittenFields
+pub mod ListingLines
+pub mod LinesBack
+pub mod LinesAside
+pub mod ListingBack
+pub mod RepliesBack
+pub mod NamesLines
+pub mod KissSound
+pub mod KissNumbers
+pub mod KissNamed
+pub mod KissWritten
+pub mod KissBack

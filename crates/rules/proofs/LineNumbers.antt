@@ -39,7 +39,7 @@ use Rattle.rules.proofs.Sound.{goes-same, stops-not, step-placed, after
 abbrev Numbered : ℕ → Listing → Type 0
 Numbered m t = (j : ℕ) → j < t .rows → getD (t .table) j noRow .line ≤ m
 
-abbrev AtMost : ℕ → Verdict → Type 0
+abbrev pub AtMost : ℕ → Verdict → Type 0
 AtMost m Verdict.Accepted = Unit {0}
 AtMost m (Verdict.Refused r k) = k ≤ m
 
@@ -205,7 +205,7 @@ all-within m (l ∷ (x ∷ xs)) h n = rw (all-two l x xs) (go (flowHead l x) ref
 
 -- ---- the conflict
 
-abbrev AllBelow : ℕ → List Row → Type 0
+abbrev pub AllBelow : ℕ → List Row → Type 0
 AllBelow m [] = Unit {0}
 AllBelow m (r ∷ rs) = (r .line ≤ m) × AllBelow m rs
 
@@ -218,16 +218,16 @@ clash-within m a (b ∷ bs) h = go (clash a b) (clash-within m a bs (h .1))
     go true g = h .0
     go false g = g
 
-or-within : (m : ℕ) (v w : Verdict) → AtMost m v → AtMost m w → AtMost m (orElse v w)
+pub or-within : (m : ℕ) (v w : Verdict) → AtMost m v → AtMost m w → AtMost m (orElse v w)
 or-within m Verdict.Accepted w h g = g
 or-within m (Verdict.Refused r k) w h g = h
 
-conflict-within : (m : ℕ) (rs : List Row) → AllBelow m rs → AtMost m (conflict rs)
+pub conflict-within : (m : ℕ) (rs : List Row) → AllBelow m rs → AtMost m (conflict rs)
 unfolding conflict
 conflict-within m [] h = tt
 conflict-within m (a ∷ rs) h = or-within m (clashWith a rs) (conflict rs) (clash-within m a rs (h .1)) (conflict-within m rs (h .1))
 
-all-below : (m : ℕ) (l : List Row) → ((j : ℕ) → j < length l → getD l j noRow .line ≤ m) → AllBelow m l
+pub all-below : (m : ℕ) (l : List Row) → ((j : ℕ) → j < length l → getD l j noRow .line ≤ m) → AllBelow m l
 all-below m [] f = tt
 all-below m (r ∷ rs) f = (f 0 (omega arith), all-below m rs (λ j h. f (suc j) (omega arith)))
 
@@ -258,7 +258,7 @@ push-length : (x : ℕ) (ps : List (List ℕ)) → length (push x ps) ≤ suc (l
 push-length x [] = omega arith
 push-length x (p ∷ ps) = omega arith
 
-split-length : (q : ℕ) (l : List ℕ) → length (split q l) ≤ suc (length l)
+pub split-length : (q : ℕ) (l : List ℕ) → length (split q l) ≤ suc (length l)
 unfolding split
 split-length q [] = omega arith
 split-length q (x ∷ xs) = go (eqb x q) (split-length q xs)

@@ -27,7 +27,7 @@ use Rattle.rules.specs.declared.Judgement.the-variants.{By, ByNone}
 use Rattle.rules.proofs.Fields.{Without, none, more, without-map}
 use Rattle.rules.proofs.Ended.{Ended, last, then, ended-behind, AllEnded, no-line, line, ended-append, ended-map, HasLine, of-text, in-text, digits-ended, space-then, mark-then}
 
-code-without : (ds : List ℕ) → Without lf (codeText ds)
+pub code-without : (ds : List ℕ) → Without lf (codeText ds)
 unfolding codeText
 code-without [] = more {x = dash} (λ e. omega arith) none
 code-without (d ∷ ds) = without-map lf (λ x. nought + x) (d ∷ ds) (λ x e. omega arith)

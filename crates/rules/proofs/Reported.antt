@@ -293,7 +293,7 @@ module _ (t : Listing) (c : Code) where
 
 -- ---- the reply
 
-replied : Reading → Verdict → Reply
+unfoldable pub replied : Reading → Verdict → Reply
 replied r v = elim v [ Verdict.Accepted ↦ reportOf (r .listing) (coding (r .listing)) | Verdict.Refused f k ↦ refuses f k ]
 
 pub of-coding : (t : Listing) (g : Coding) (text : List ℕ) → reportOf t g ≡ says text → (c : Code) × (g ≡ coded c) × (text ≡ report t c)
@@ -301,7 +301,7 @@ unfolding report
 of-coding t (coded c) text e = (c, refl, sym (says-same (report t c) text e))
 of-coding t (uncoded f) text e = absurd (says-not f 0 text e)
 
-of-reading : (r : Reading) (text : List ℕ) (v : Verdict) → r .verdict ≡ v → replied r v ≡ says text → Reported r text
+pub of-reading : (r : Reading) (text : List ℕ) (v : Verdict) → r .verdict ≡ v → replied r v ≡ says text → Reported r text
 unfolding replied
 of-reading r text Verdict.Accepted a e =
     let w = of-coding (r .listing) (coding (r .listing)) text e in

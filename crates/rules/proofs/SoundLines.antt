@@ -153,7 +153,7 @@ row-checked count a r e =
     let e₃ = chose-second (leb 2 (size (a .next))) (e₂ .1) (row-not NextState r) in
     (leb-false most-rows count (e₁ .0), eqb-false (a .group) 0 (e₂ .0), omega (arith, leb-false 2 (size (a .next)) (e₃ .0)), row-same a r (e₃ .1))
 
-pattern : (most k : ℕ) (f : List ℕ) → sized most k nought one dash f ≡ true → SoundPattern k (record { ones = setOf one f; dashes = setOf dash f })
+pub pattern : (most k : ℕ) (f : List ℕ) → sized most k nought one dash f ≡ true → SoundPattern k (record { ones = setOf one f; dashes = setOf dash f })
 pattern most k f q = record {
   ones = sized-set most k nought one dash f q one;
   dashes = sized-set most k nought one dash f q dash;

@@ -219,10 +219,10 @@ of-coding t (coded c) text sound apart e = (c, refl, of-code t c text sound apar
 of-coding t (uncoded f) text sound apart e = absurd (says-not f 0 text (sym (no-code t f) ∙ e))
 
 -- what is said of a listing that is read
-replied : Reading → Verdict → Reply
+unfoldable pub replied : Reading → Verdict → Reply
 replied r v = elim v [ Verdict.Accepted ↦ coverOf (r .listing) (coding (r .listing)) | Verdict.Refused f k ↦ refuses f k ]
 
-of-reading : (r : Reading) (text : List ℕ) → (r .verdict ≡ Verdict.Accepted → Sound (r .listing)) → (r .verdict ≡ Verdict.Accepted → complete (r .listing .head) (r .listing .given) ≡ true)
+pub of-reading : (r : Reading) (text : List ℕ) → (r .verdict ≡ Verdict.Accepted → Sound (r .listing)) → (r .verdict ≡ Verdict.Accepted → complete (r .listing .head) (r .listing .given) ≡ true)
     → (r .verdict ≡ Verdict.Accepted → conflict (rowsOf (r .listing)) ≡ Verdict.Accepted) → (v : Verdict) → r .verdict ≡ v
     → replied r v ≡ says text → Written r text
 unfolding replied

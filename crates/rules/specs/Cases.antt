@@ -11,6 +11,8 @@ use Rattle.rules.specs.declared.HeadLine.{HeadLine}
 use Rattle.rules.specs.declared.RowLine.{RowLine}
 use Rattle.rules.specs.declared.DichotomyLine.{DichotomyLine}
 use Rattle.rules.specs.declared.EndLine.{EndLine}
+use Rattle.rules.specs.declared.StartLine.{StartLine}
+use Rattle.rules.specs.declared.VectorLine.{VectorLine}
 use Rattle.rules.specs.declared.Refusal.the-variants.{BadLine}
 
 pub record Numbers : Type 0 where
@@ -51,3 +53,12 @@ dichotomyNumbers (DichotomyLine.Refused r) = record { refusal = number r; values
 unfoldable pub endNumbers : EndLine → Numbers
 endNumbers EndLine.Read = holds []
 endNumbers (EndLine.Refused r) = record { refusal = number r; values = [] }
+
+-- of a recorded run: the state, and the input vector
+unfoldable pub startNumbers : StartLine → Numbers
+startNumbers (StartLine.Read s) = holds (s .0 ∷ [])
+startNumbers (StartLine.Refused r) = record { refusal = number r; values = [] }
+
+unfoldable pub vectorNumbers : VectorLine → Numbers
+vectorNumbers (VectorLine.Read x) = holds (x ∷ [])
+vectorNumbers (VectorLine.Refused r) = record { refusal = number r; values = [] }

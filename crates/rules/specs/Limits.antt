@@ -48,3 +48,11 @@ most-small-asked = 32
 
 abbrev pub most-small-bits : ℕ
 most-small-bits = 5
+
+-- the bytes of a state's name (02, request 01)
+abbrev pub most-name : ℕ
+most-name = 31
+
+-- the steps of a run that is replayed (02, request 08)
+abbrev pub most-steps : ℕ
+most-steps = 10000

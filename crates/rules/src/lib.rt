@@ -39,6 +39,12 @@ pub const MOST_SMALL_ASKED: usize = 32;
 
 pub const MOST_SMALL_BITS: usize = 5;
 
+// The longest name of a state in a KISS2 text, in bytes.
+pub const MOST_NAME: usize = 31;
+
+// The steps of a run that is replayed.
+pub const MOST_STEPS: usize = 10000;
+
 // A state's number, from 0. Moves and gains take it, a C host's too.
 #[repr(C)]
 pub struct StateNumber(pub usize);
@@ -111,7 +117,7 @@ pub struct Listing {
     pub given: u64,
 }
 
-// Why a call is refused, in the order of their numbers, of which 8 is unused and 12 is not given yet.
+// Why a call is refused, in the order of their numbers, of which 8 is unused.
 pub enum Refusal {
     BadLine,
     Limit,
@@ -123,7 +129,9 @@ pub enum Refusal {
     Unmet,
     NoRoom,
     BadCall,
+    Names,
     Unstable,
+    NoNext,
     NoShortCode,
     NoOutputs,
 }
@@ -144,7 +152,9 @@ impl Refusal {
             Refusal::Unmet => 9,
             Refusal::NoRoom => 10,
             Refusal::BadCall => 11,
+            Refusal::Names => 12,
             Refusal::Unstable => 13,
+            Refusal::NoNext => 14,
             Refusal::NoShortCode => 16,
             Refusal::NoOutputs => 17,
         }
@@ -167,6 +177,34 @@ pub enum Mark {
     Ft,
     En,
     Unknown,
+}
+
+// The mark that leads a line of a KISS2 text; a line without one is a row.
+pub enum KissMark {
+    Inputs,
+    Outputs,
+    States,
+    Products,
+    Reset,
+    End,
+    Unknown,
+    Row,
+}
+
+// A number that a header of a KISS2 text tells, and its line, which is 0 while the header is missing.
+pub struct Told {
+    pub number: usize,
+    pub line: usize,
+}
+
+// What the headers of a KISS2 text say, with 0 inputs or outputs while those are missing, whether `.r` came, and how many lines of rows stand behind them so far.
+pub struct KissHeads {
+    pub inputs: usize,
+    pub outputs: usize,
+    pub states: Told,
+    pub products: Told,
+    pub reset: bool,
+    pub lines: usize,
 }
 
 // What a field says as a number.
@@ -204,6 +242,17 @@ pub enum EndLine {
 // The entries of a flow table's line are read one by one, from the line.
 pub enum FlowLine {
     Read,
+    Refused(Refusal),
+}
+
+// The same of the lines of a recorded run: the state that it starts in, and an input vector, input j digit j.
+pub enum StartLine {
+    Read(StateNumber),
+    Refused(Refusal),
+}
+
+pub enum VectorLine {
+    Read(u64),
     Refused(Refusal),
 }
 

@@ -26,7 +26,7 @@ empty-low : (n x : ℕ) → bitAnd x (2 ^ n - 1) ≡ 0 → every n (λ s. eqb (h
 empty-low n x z = at-every n (λ s. eqb (has x s) 0) (λ s h. eq-eqb _ 0 (sym (low-digit n x s h) ∙ ap (λ (m : ℕ). has m s) z ∙ has-none s))
 
 -- they are all 0 exactly when the mask's rest is empty
-none-low : (n x : ℕ) → eqb (bitAnd x (2 ^ n - 1)) 0 ≡ every n (λ s. eqb (has x s) 0)
+pub none-low : (n x : ℕ) → eqb (bitAnd x (2 ^ n - 1)) 0 ≡ every n (λ s. eqb (has x s) 0)
 none-low n x = go (every n (λ s. eqb (has x s) 0)) refl
   where
     go : (t : Bool) → every n (λ s. eqb (has x s) 0) ≡ t → eqb (bitAnd x (2 ^ n - 1)) 0 ≡ t

@@ -17,9 +17,9 @@ use Rattle.rules.specs.Parts.{wholeLines, part, getsOn, answeredPart}
 use Rattle.rules.specs.declared.Refusal.the-variants.{NoRoom}
 use Rattle.rules.proofs.Parts.{whole-front}
 use Rattle.host_replies.specs.declared.Said.{Said}
-use Rattle.host_replies.specs.Ready.{longest}
 use Rattle.host_replies.specs.Saying.{saying, sayingPart}
 use Rattle.host_replies.proofs.Replies.{Small}
+use Rattle.host_replay.proofs.Replies.{SmallRun}
 use Rattle.tsurmokan.specs.Signed.{signed, Within}
 
 -- a number of 64 bits, read back as it was
@@ -47,9 +47,24 @@ unfolding signed
 as-number true n text out = refl
 as-number false n text out = refl
 
-within-given : (b : Bool) (n : ℕ) (text out : List ℕ) → n ≤ longest → Within (given b n text out .0)
+within-given : (b : Bool) (n : ℕ) (text out : List ℕ) → n < 9223372036854775808 → Within (given b n text out .0)
 within-given true n text out h = h
 within-given false n text out h = omega arith
+
+-- ---- a reply that a number can tell
+
+abbrev pub Short : Reply → Type 0
+Short (says text) = length text < 9223372036854775808
+Short (refuses r line) = line < 100000
+
+-- every reply to a listing alone, and every replay
+pub small-short : (x : Reply) → Small x → Short x
+small-short (says text) h = omega arith
+small-short (refuses r line) h = h
+
+pub run-short : (x : Reply) → SmallRun x → Short x
+run-short (says text) h = omega arith
+run-short (refuses r line) h = h
 
 -- ---- what was said is the answer, and small enough for its number
 
@@ -59,7 +74,7 @@ pub record Told (said : Said × List ℕ) (answer : ℤ × List ℕ) : Type 0 wh
   pub within : Within (said .0)
 
 -- the whole
-pub told : (reply : Reply) → Small reply → (out : List ℕ) → Told (saying reply out) (answered reply out)
+pub told : (reply : Reply) → Short reply → (out : List ℕ) → Told (saying reply out) (answered reply out)
 unfolding saying answered signed
 told (says text) h out =
     let room : Bool = leb (length text) (length out) in
@@ -67,7 +82,7 @@ told (says text) h out =
 told (refuses r line) h out = record { same = refl; within = h }
 
 -- a part
-pub told-part : (reply : Reply) → Small reply → (from : ℕ) (out : List ℕ) → Told (sayingPart reply from out) (answeredPart reply from out)
+pub told-part : (reply : Reply) → Short reply → (from : ℕ) (out : List ℕ) → Told (sayingPart reply from out) (answeredPart reply from out)
 unfolding sayingPart answeredPart signed
 told-part (says text) h from out =
     let l : List ℕ = part (length out) from text in

@@ -1,8 +1,7 @@
 -- What was said, as one signed number: 01's "The listing's bytes and an output buffer".
-use Prim.Native.Nat.{_≤_, _<_}
+use Prim.Native.Nat.{_<_}
 use lib.IntN.{ℤ, pos}
 use Rattle.rules.specs.Refusals.{minus}
-use Rattle.host_replies.specs.Ready.{longest}
 use Rattle.host_replies.specs.declared.Said.{Said}
 
 unfoldable pub signed : Said → ℤ
@@ -12,5 +11,5 @@ signed (Said.Refused r line) = minus r line
 
 -- such that the number tells it
 abbrev pub Within : Said → Type 0
-Within (Said.Text n) = n ≤ longest
+Within (Said.Text n) = n < 9223372036854775808
 Within (Said.Refused r line) = line < 100000

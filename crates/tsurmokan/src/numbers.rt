@@ -4,10 +4,11 @@ ghost use Prim.Native.Nat.{_<_};
 ghost use lib.IntN.{pos};
 ghost use Rattle.rules.specs.Refusals.{minus};
 ghost use Rattle.rules.specs.Answers.{answered};
+ghost use Rattle.rules.specs.KissAnswers.{kissNamesReply};
 ghost use Rattle.rules.specs.Parts.{answeredPart};
 ghost use Rattle.host_replies.specs.Saying.{replyTo};
 ghost use Rattle.tsurmokan.specs.Signed.{signed, Within};
-use write_texts::Wanted;
+use host_replies::plans::Wanted;
 
 // The length of a text.
 fn length_of(n: usize) -> i64
@@ -27,7 +28,7 @@ fn minus_of(refusal: rules::Refusal, line: usize) -> i64
 }
 
 // What was said, as one signed number.
-fn number_of(said: host_replies::Said) -> i64
+pub fn number_of(said: host_replies::Said) -> i64
     requires { ⌜ Within said ⌝ }
     ensures { λ r. ⌜ r ≡ signed said ⌝ }
 {
@@ -50,5 +51,13 @@ pub fn answer_part(wanted: Wanted, listing: &[u8], from: usize, out: &mut [u8]) 
     ensures { λ r. ⌜ (r, now (out .exit)) ≡ answeredPart (replyTo wanted (now (listing .entry))) from (now (out .entry)) ⌝ }
 {
     let said = host_replies::say_part(wanted, listing, from, out);
+    number_of(said)
+}
+
+// The answer to the names of a KISS2 text.
+pub fn answer_names(text: &[u8], out: &mut [u8]) -> i64
+    ensures { λ r. ⌜ (r, now (out .exit)) ≡ answered (kissNamesReply (now (text .entry))) (now (out .entry)) ⌝ }
+{
+    let said = host_names::say_names(text, out);
     number_of(said)
 }

@@ -1,4 +1,4 @@
 // Prints what each width buys the listing on standard input, or `NO number line`.
 fn main() {
-    host_programs::run(write_texts::Wanted::Widths)
+    host_programs::run(host_replies::plans::Wanted::Widths)
 }

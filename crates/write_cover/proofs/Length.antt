@@ -84,4 +84,4 @@ cover-fit t bits b r w =
     printed = printedRows (t .head) bits (allRows t)
 
     each : (q : Row) → length (coverRow (t .head) bits (allRows t) q ++ (lf ∷ [])) ≤ longest-line
-    each q = rw (← kept-text (t .head) bits (allRows t) q) (row-few (t .head) bits (keptRow (allRows t) q) b w)
+    each q = rw (← kept-text (t .head) bits (allRows t) q) (omega (arith, row-few (t .head) bits (keptRow (allRows t) q) b w))

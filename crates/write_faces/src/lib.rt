@@ -21,7 +21,7 @@ fn pattern_byte(p: Pattern, j: usize) -> u8
 }
 
 // The first n characters of a pattern.
-fn put_pattern(out: &mut [u8], at: usize, p: Pattern, n: usize) -> usize
+pub fn put_pattern(out: &mut [u8], at: usize, p: Pattern, n: usize) -> usize
     ensures { λ r. ⌜ Wrote (now (out .entry)) at (patternText p n) r (now (out .exit)) ⌝ }
 {
     let mut j: usize = 0;

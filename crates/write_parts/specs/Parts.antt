@@ -41,6 +41,6 @@ unfolding added
 addedAll [] s = s
 addedAll (l ∷ ls) s = addedAll ls (added l s)
 
--- no line of a text is longer: 16 inputs, 64 bits, a space, 64 bits, 32 outputs and LF
+-- no line of a text is longer: `PT `, 16 inputs, 64 states twice, 32 outputs, three spaces and LF
 abbrev pub longest-line : ℕ
-longest-line = 178
+longest-line = 183

@@ -1,4 +1,4 @@
--- What is written of a listing and of what the encoder answered for it, by what is wanted.
+-- What is written of a listing and of what the encoder answered for it, by which text it is.
 use mathlib.Core.Bool.{cond}
 use mathlib.Core.List.{List}
 use Prim.Native.Nat.{ℕ}
@@ -12,26 +12,25 @@ use Rattle.code_judging.specs.Judging.{anyUnmet}
 use Rattle.write_report.specs.Report.{encodedLines as reportLines}
 use Rattle.write_widths.specs.Widths.{encodedLines as widthLines}
 use Rattle.write_cover.specs.Covers.{linesWithin}
-use Rattle.write_texts.specs.declared.Wanted.{Wanted}
+use Rattle.write_listing.specs.Listings.{linesWithin as listingLines}
+use Rattle.write_texts.specs.declared.Text.{Text}
 
 -- 9: a pair or group requirement is unmet
 unfoldable pub coverVerdict : Listing → Encoding → Verdict
 unfolding anyUnmet firstFamilies
 coverVerdict t e = cond (anyUnmet (firstFamilies t) e) (Verdict.Refused Unmet 0) Verdict.Accepted
 
--- a report, and what each width buys, are never withheld
-unfoldable pub verdictOf : Wanted → Listing → Encoding → Verdict
+-- no other text is withheld
+unfoldable pub verdictOf : Text → Listing → Encoding → Verdict
 unfolding coverVerdict
-verdictOf Wanted.Report t e = Verdict.Accepted
-verdictOf Wanted.Cover t e = coverVerdict t e
-verdictOf Wanted.Widths t e = Verdict.Accepted
-verdictOf Wanted.Least t e = Verdict.Accepted
-verdictOf Wanted.LeastCover t e = coverVerdict t e
+verdictOf Text.Report t e = Verdict.Accepted
+verdictOf Text.Cover t e = coverVerdict t e
+verdictOf Text.Widths t e = Verdict.Accepted
+verdictOf Text.Listing t e = Verdict.Accepted
 
-unfoldable pub textLines : Wanted → Listing → Encoding → List (List ℕ)
-unfolding reportLines widthLines linesWithin firstFamilies allFamilies
-textLines Wanted.Report t e = reportLines (t .head .states) (allFamilies t) e
-textLines Wanted.Cover t e = linesWithin t (take (e .width) (e .bits))
-textLines Wanted.Widths t e = widthLines (allFamilies t) (length (firstFamilies t)) e
-textLines Wanted.Least t e = reportLines (t .head .states) (allFamilies t) e
-textLines Wanted.LeastCover t e = linesWithin t (take (e .width) (e .bits))
+unfoldable pub textLines : Text → Listing → Encoding → List (List ℕ)
+unfolding reportLines widthLines linesWithin listingLines firstFamilies allFamilies
+textLines Text.Report t e = reportLines (t .head .states) (allFamilies t) e
+textLines Text.Cover t e = linesWithin t (take (e .width) (e .bits))
+textLines Text.Widths t e = widthLines (allFamilies t) (length (firstFamilies t)) e
+textLines Text.Listing t e = listingLines t

@@ -1,21 +1,20 @@
-// What can be wanted of a listing and its code: the report, the cover or what each width buys, as lines; and whether it is to be had. The least code of a small
-// machine has the same report and the same cover as any other code.
+// What can be written of a listing and its code: the report, the cover, what each width buys, or the listing itself, as lines; and whether it is to be had.
+// Each writer is called in one place.
 ghost use mathlib.Core.Path.{_≡_};
 ghost use Rattle.write_parts.specs.Parts.{addedAll};
 ghost use Rattle.write_texts.specs.Texts.{coverVerdict, verdictOf, textLines};
-ghost use Rattle.write_texts.specs.declared.Wanted.{Wanted};
+ghost use Rattle.write_texts.specs.declared.Text.{Text};
 use rules::Encoding;
 use rules::Listing;
 use rules::Verdict;
 use write_parts::Part;
 
-// What is asked for.
-pub enum Wanted {
+// Which text is written.
+pub enum Text {
     Report,
     Cover,
     Widths,
-    Least,
-    LeastCover,
+    Listing,
 }
 
 // A cover is refused 9 where a pair or group requirement is unmet.
@@ -30,22 +29,21 @@ fn cover_verdict(t: Listing, e: Encoding) -> Verdict
     Verdict::Accepted
 }
 
-// Whether what is wanted is refused in a code that there is: a cover can be, the others never are.
-pub fn verdict_of(wanted: Wanted, t: Listing, e: Encoding) -> Verdict
-    ensures { λ r. ⌜ r ≡ verdictOf wanted t e ⌝ }
+// Whether a text is refused in a code that there is: a cover can be, the others never are.
+pub fn verdict_of(text: Text, t: Listing, e: Encoding) -> Verdict
+    ensures { λ r. ⌜ r ≡ verdictOf text t e ⌝ }
 {
-    match wanted {
-        Wanted::Report => Verdict::Accepted,
-        Wanted::Cover => cover_verdict(t, e),
-        Wanted::Widths => Verdict::Accepted,
-        Wanted::Least => Verdict::Accepted,
-        Wanted::LeastCover => cover_verdict(t, e),
+    match text {
+        Text::Report => Verdict::Accepted,
+        Text::Cover => cover_verdict(t, e),
+        Text::Widths => Verdict::Accepted,
+        Text::Listing => Verdict::Accepted,
     }
 }
 
 // The report.
 fn add_report(t: Listing, e: Encoding, part: Part, out: &mut [u8]) -> Part
-    ensures { λ r. ⌜ (r, now (out .exit)) ≡ addedAll (textLines Wanted.Report t e) (part, now (out .entry)) ⌝ }
+    ensures { λ r. ⌜ (r, now (out .exit)) ≡ addedAll (textLines Text.Report t e) (part, now (out .entry)) ⌝ }
 {
     let mut fs = [0u64; code_drawing::ALL_WORDS];
     let words = code_drawing::draw_all(t, &mut fs);
@@ -54,7 +52,7 @@ fn add_report(t: Listing, e: Encoding, part: Part, out: &mut [u8]) -> Part
 
 // The cover.
 fn add_cover(t: Listing, e: Encoding, part: Part, out: &mut [u8]) -> Part
-    ensures { λ r. ⌜ (r, now (out .exit)) ≡ addedAll (textLines Wanted.Cover t e) (part, now (out .entry)) ⌝ }
+    ensures { λ r. ⌜ (r, now (out .exit)) ≡ addedAll (textLines Text.Cover t e) (part, now (out .entry)) ⌝ }
 {
     let bits = e.bits;
     write_cover::add_cover(out, part, t, e.width, bits)
@@ -62,7 +60,7 @@ fn add_cover(t: Listing, e: Encoding, part: Part, out: &mut [u8]) -> Part
 
 // What each width buys. Of the families those of the pairs and the groups stand in front.
 fn add_widths(t: Listing, e: Encoding, part: Part, out: &mut [u8]) -> Part
-    ensures { λ r. ⌜ (r, now (out .exit)) ≡ addedAll (textLines Wanted.Widths t e) (part, now (out .entry)) ⌝ }
+    ensures { λ r. ⌜ (r, now (out .exit)) ≡ addedAll (textLines Text.Widths t e) (part, now (out .entry)) ⌝ }
 {
     let mut fs = [0u64; code_drawing::ALL_WORDS];
     let first = code_drawing::draw_first(t, &mut fs);
@@ -70,15 +68,14 @@ fn add_widths(t: Listing, e: Encoding, part: Part, out: &mut [u8]) -> Part
     write_widths::add_widths(out, part, e, &fs[..words], first)
 }
 
-// The lines of what is wanted, added to a part.
-pub fn add_lines(wanted: Wanted, t: Listing, e: Encoding, part: Part, out: &mut [u8]) -> Part
-    ensures { λ r. ⌜ (r, now (out .exit)) ≡ addedAll (textLines wanted t e) (part, now (out .entry)) ⌝ }
+// The lines of a text, added to a part.
+pub fn add_lines(text: Text, t: Listing, e: Encoding, part: Part, out: &mut [u8]) -> Part
+    ensures { λ r. ⌜ (r, now (out .exit)) ≡ addedAll (textLines text t e) (part, now (out .entry)) ⌝ }
 {
-    match wanted {
-        Wanted::Report => add_report(t, e, part, out),
-        Wanted::Cover => add_cover(t, e, part, out),
-        Wanted::Widths => add_widths(t, e, part, out),
-        Wanted::Least => add_report(t, e, part, out),
-        Wanted::LeastCover => add_cover(t, e, part, out),
+    match text {
+        Text::Report => add_report(t, e, part, out),
+        Text::Cover => add_cover(t, e, part, out),
+        Text::Widths => add_widths(t, e, part, out),
+        Text::Listing => write_listing::add_listing(out, part, t),
     }
 }

@@ -18,7 +18,7 @@ returns c =
     let p = t .before in
     let a = p .before .before .args in
     let d = ready (a .wanted) (a .listing .now) in
-    ap (λ (x : Ready). tooLong (record { wanted = a .wanted; verdict = x .verdict; listing = x .listing; encoding = x .encoding })) (p .prepare .ensures)
+    ap (λ (x : Ready). tooLong x) (p .prepare .ensures)
     ∙ sym (ap (λ (b : Bool). cond b (tooLong d) d) (t .if1 .taken))
 
 returns-2 : tie.Need-returns-2

@@ -5,7 +5,8 @@ use Rattle.write_parts.specs.Parts.{begun, addedAll}
 use Rattle.write_parts.specs.declared.Part.{Part}
 use Rattle.write_parts.proofs.Adding.{Lent}
 use Rattle.host_replies.specs.Ready.{linesOf}
-use Rattle.host_replies.proofs.Sayings.{refused-part, part-waits, part-said}
+use Rattle.host_replies.proofs.Sayings.{ready-pieces, reply-accepted, reply-refused}
+use Rattle.host_replies.proofs.Told.{refused-part, part-waits, part-said}
 use Rattle.host_replies.proofs.say_from.Statement.{statement}
 use Rattle.host_replies.proofs.say_from.Tie as tie
 
@@ -34,12 +35,12 @@ returns : tie.Need-returns
 returns c =
     let t = c .before .before .before .before .before in
     let a = t .before .before .before .before .before .before .args in
-    part-waits (a .ready) (t .before .before .before .enum-told .given .1) (a .out .now) (a .from) _ (added-from t) (c .before .if1 .taken) (c .if2 .taken)
+    part-waits (linesOf (a .ready)) (ready-pieces (a .ready)) (reply-accepted (a .ready) (t .before .before .before .enum-told .given .1)) (a .out .now) (a .from) _ (added-from t) (c .before .if1 .taken) (c .if2 .taken)
 
 returns-2 : tie.Need-returns-2
 returns-2 c =
     let a = c .before .before .before .before .args in
-    refused-part (a .ready) _ _ (c .before .verdict .given .1) (a .out .now) (a .from)
+    refused-part _ _ (reply-refused (a .ready) _ _ (c .before .verdict .given .1)) (a .out .now) (a .from)
 
 same-length-2 : tie.Need-same-length-2
 same-length-2 c = search needs
@@ -48,7 +49,7 @@ returns-3 : tie.Need-returns-3
 returns-3 c =
     let t = c .before .before .before .before .before in
     let a = t .before .before .before .before .before .before .args in
-    part-said (a .ready) (t .before .before .before .enum-told .given .1) (a .out .now) (a .from) _ (added-from t) (λ z. c .if2 .left)
+    part-said (linesOf (a .ready)) (ready-pieces (a .ready)) (reply-accepted (a .ready) (t .before .before .before .enum-told .given .1)) (a .out .now) (a .from) _ (added-from t) (λ z. c .if2 .left)
 
 same-length-3 : tie.Need-same-length-3
 same-length-3 c = search needs
@@ -57,7 +58,7 @@ returns-4 : tie.Need-returns-4
 returns-4 c =
     let t = c .before .before .before .before in
     let a = t .before .before .before .before .before .before .args in
-    part-said (a .ready) (t .before .before .before .enum-told .given .1) (a .out .now) (a .from) _ (added-from t) (λ z. absurd (c .if1 .left z))
+    part-said (linesOf (a .ready)) (ready-pieces (a .ready)) (reply-accepted (a .ready) (t .before .before .before .enum-told .given .1)) (a .out .now) (a .from) _ (added-from t) (λ z. absurd (c .if1 .left z))
 
 pub say-from-spec : {M : Type 1} → statement M
 say-from-spec =

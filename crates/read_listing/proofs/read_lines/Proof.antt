@@ -16,8 +16,8 @@ use Rattle.read_pieces.proofs.Laws.{Cut, cut-of}
 use Rattle.read_listing.specs.declared.says.Said.{Said}
 use Rattle.read_listing.specs.Says.{stepOf}
 use Rattle.read_listing.proofs.Room.{Few, blank-few, said-room, outputs-done}
-use Rattle.read_listing.proofs.Ends.{ended-is, checked-unended}
-use Rattle.read_listing.proofs.Whole.{checked-refused}
+use Rattle.read_listing.proofs.Ends.{end-at, unended-checked}
+use Rattle.read_listing.proofs.Whole.{refused-checked}
 use Rattle.read_listing.proofs.Steps.{behind, read-line, read-last}
 use Rattle.read_listing.proofs.read_lines.Statement.{statement}
 use Rattle.read_listing.proofs.read_lines.Tie as tie
@@ -67,32 +67,32 @@ add-at c = search needs
 enum-known-said : tie.Need-enum-known-said Inv-loop μ-loop
 enum-known-said c = search needs
 
-refuse-requires : tie.Need-refuse-requires Inv-loop μ-loop
-refuse-requires c κs = search needs
-
 returns : tie.Need-returns Inv-loop μ-loop
-returns c = c .refuse .ensures ∙ sym (checked-refused _ _) ∙ ap checked (all-lines (c .before .before .before .before) (c .before .before .said .given .1))
+returns c =
+    let d = c .before .before .before in
+    refused-checked _ _ _ ∙ ap checked (all-lines d (c .before .said .given .1))
 
 enum-told : tie.Need-enum-told Inv-loop μ-loop
 enum-told c = search needs
 
-sub-finish : tie.Need-sub-finish Inv-loop μ-loop
-sub-finish c = search needs
+sub-end-verdict : tie.Need-sub-end-verdict Inv-loop μ-loop
+sub-end-verdict c = search needs
 
-part-finish-start : tie.Need-part-finish-start Inv-loop μ-loop
-part-finish-start c = search needs
+part-end-verdict-start : tie.Need-part-end-verdict-start Inv-loop μ-loop
+part-end-verdict-start c = search needs
 
-part-finish-end : tie.Need-part-finish-end Inv-loop μ-loop
-part-finish-end c = search needs
+part-end-verdict-end : tie.Need-part-end-verdict-end Inv-loop μ-loop
+part-end-verdict-end c = search needs
 
-finish-requires : tie.Need-finish-requires Inv-loop μ-loop
-finish-requires c κs = search needs
+end-verdict-requires : tie.Need-end-verdict-requires Inv-loop μ-loop
+end-verdict-requires c κs = search needs
 
 returns-2 : tie.Need-returns-2 Inv-loop μ-loop
 returns-2 c =
-    let d = c .before .before .before .before in
+    let e = c .before .before .before in
+    let d = e .before .before in
     let l = d .before .before .before .before .loop in
-    c .finish .ensures ∙ ap checked (sym (ended-is (l .k) (l .t) _ (l .end + 1)) ∙ all-lines d (c .before .before .enum-told .given .1))
+    end-at (l .k) (l .t) _ (l .end + 1) (c .end-verdict .ensures) ∙ ap checked (all-lines d (e .enum-told .given .1))
 
 enum-known-said-2 : tie.Need-enum-known-said-2 Inv-loop μ-loop
 enum-known-said-2 c = search needs
@@ -181,22 +181,23 @@ loop-again c =
           (c .before .match .came),
     )
 
-sub-break-off : tie.Need-sub-break-off Inv-loop μ-loop
-sub-break-off c = search needs
+sub-break-verdict : tie.Need-sub-break-verdict Inv-loop μ-loop
+sub-break-verdict c = search needs
 
-part-break-off-start : tie.Need-part-break-off-start Inv-loop μ-loop
-part-break-off-start c = search needs
+part-break-verdict-start : tie.Need-part-break-verdict-start Inv-loop μ-loop
+part-break-verdict-start c = search needs
 
-part-break-off-end : tie.Need-part-break-off-end Inv-loop μ-loop
-part-break-off-end c = search needs
+part-break-verdict-end : tie.Need-part-break-verdict-end Inv-loop μ-loop
+part-break-verdict-end c = search needs
 
-break-off-requires : tie.Need-break-off-requires Inv-loop μ-loop
-break-off-requires c κs = search needs
+break-verdict-requires : tie.Need-break-verdict-requires Inv-loop μ-loop
+break-verdict-requires c κs = search needs
 
 returns-3 : tie.Need-returns-3 Inv-loop μ-loop
 returns-3 c =
     let l = c .before .before .before .before .loop in
-    c .break-off .ensures ∙ sym (checked-unended (l .k) (l .t .head) (l .t .given) _) ∙ ap checked (sym (read-last (l .k) (l .t) _ (l .at) (l .end) (l .inv .0) (omega arith)) ∙ l .inv .2)
+    unended-checked (l .k) (l .t .head) (l .t .given) (l .t) _ (c .break-verdict .ensures)
+    ∙ ap checked (sym (read-last (l .k) (l .t) _ (l .at) (l .end) (l .inv .0) (omega arith)) ∙ l .inv .2)
 
 pub read-lines-spec : {M : Type 1} → statement M
 read-lines-spec =
@@ -213,13 +214,12 @@ read-lines-spec =
     line-said-requires
     add-at
     enum-known-said
-    refuse-requires
     returns
     enum-told
-    sub-finish
-    part-finish-start
-    part-finish-end
-    finish-requires
+    sub-end-verdict
+    part-end-verdict-start
+    part-end-verdict-end
+    end-verdict-requires
     returns-2
     enum-known-said-2
     enum-known-said-3
@@ -238,8 +238,8 @@ read-lines-spec =
     cut-requires-2
     loop-less
     loop-again
-    sub-break-off
-    part-break-off-start
-    part-break-off-end
-    break-off-requires
+    sub-break-verdict
+    part-break-verdict-start
+    part-break-verdict-end
+    break-verdict-requires
     returns-3)

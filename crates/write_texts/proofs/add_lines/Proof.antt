@@ -1,9 +1,9 @@
--- `write_texts::add_lines` meets its contract, by what is wanted: a report or a cover is written alike in the least code.
+-- `write_texts::add_lines` meets its contract, text by text.
 use mathlib.Core.Path.{sym, ap, _∙_}
 use borrow.Author.Needs.{needs}
 use Rattle.write_parts.specs.Parts.{addedAll}
 use Rattle.write_texts.specs.Texts.{textLines}
-use Rattle.write_texts.specs.declared.Wanted.{Wanted}
+use Rattle.write_texts.specs.declared.Text.{Text}
 use Rattle.write_texts.proofs.add_lines.Statement.{statement}
 use Rattle.write_texts.proofs.add_lines.Tie as tie
 
@@ -28,14 +28,8 @@ add-widths-requires c κs = search needs
 enum-told-4 : tie.Need-enum-told-4
 enum-told-4 c = search needs
 
-add-report-requires-2 : tie.Need-add-report-requires-2
-add-report-requires-2 c κs = search needs
-
-enum-told-5 : tie.Need-enum-told-5
-enum-told-5 c = search needs
-
-add-cover-requires-2 : tie.Need-add-cover-requires-2
-add-cover-requires-2 c κs = search needs
+add-listing-requires : tie.Need-add-listing-requires
+add-listing-requires c κs = search needs
 
 same-length : tie.Need-same-length
 same-length c = search needs
@@ -44,7 +38,7 @@ returns : tie.Need-returns
 returns c =
     let a = c .before .before .before .before .before .before .before .args in
     c .before .before .add-report .ensures
-    ∙ sym (ap (λ (w : Wanted). addedAll (textLines w (a .t) (a .e)) (a .part, a .out .now)) (c .before .before .before .before .enum-told .given .1))
+    ∙ sym (ap (λ (x : Text). addedAll (textLines x (a .t) (a .e)) (a .part, a .out .now)) (c .before .before .before .before .enum-told .given .1))
 
 same-length-2 : tie.Need-same-length-2
 same-length-2 c = search needs
@@ -53,7 +47,7 @@ returns-2 : tie.Need-returns-2
 returns-2 c =
     let a = c .before .before .before .before .before .before .before .args in
     c .before .before .add-cover .ensures
-    ∙ sym (ap (λ (w : Wanted). addedAll (textLines w (a .t) (a .e)) (a .part, a .out .now)) (c .before .before .before .before .enum-told2 .given .1))
+    ∙ sym (ap (λ (x : Text). addedAll (textLines x (a .t) (a .e)) (a .part, a .out .now)) (c .before .before .before .before .enum-told2 .given .1))
 
 same-length-3 : tie.Need-same-length-3
 same-length-3 c = search needs
@@ -62,7 +56,7 @@ returns-3 : tie.Need-returns-3
 returns-3 c =
     let a = c .before .before .before .before .before .before .before .args in
     c .before .before .add-widths .ensures
-    ∙ sym (ap (λ (w : Wanted). addedAll (textLines w (a .t) (a .e)) (a .part, a .out .now)) (c .before .before .before .before .enum-told3 .given .1))
+    ∙ sym (ap (λ (x : Text). addedAll (textLines x (a .t) (a .e)) (a .part, a .out .now)) (c .before .before .before .before .enum-told3 .given .1))
 
 same-length-4 : tie.Need-same-length-4
 same-length-4 c = search needs
@@ -71,18 +65,8 @@ returns-4 : tie.Need-returns-4
 unfolding textLines
 returns-4 c =
     let a = c .before .before .before .before .before .before .before .args in
-    c .before .before .add-report2 .ensures
-    ∙ sym (ap (λ (w : Wanted). addedAll (textLines w (a .t) (a .e)) (a .part, a .out .now)) (c .before .before .before .before .enum-told4 .given .1))
-
-same-length-5 : tie.Need-same-length-5
-same-length-5 c = search needs
-
-returns-5 : tie.Need-returns-5
-unfolding textLines
-returns-5 c =
-    let a = c .before .before .before .before .before .before .before .args in
-    c .before .before .add-cover2 .ensures
-    ∙ sym (ap (λ (w : Wanted). addedAll (textLines w (a .t) (a .e)) (a .part, a .out .now)) (c .before .before .before .before .enum-told5 .given .1))
+    c .before .before .add-listing .ensures
+    ∙ sym (ap (λ (x : Text). addedAll (textLines x (a .t) (a .e)) (a .part, a .out .now)) (c .before .before .before .before .enum-told4 .given .1))
 
 pub add-lines-spec : {M : Type 1} → statement M
 add-lines-spec =
@@ -95,9 +79,7 @@ add-lines-spec =
     enum-told-3
     add-widths-requires
     enum-told-4
-    add-report-requires-2
-    enum-told-5
-    add-cover-requires-2
+    add-listing-requires
     same-length
     returns
     same-length-2
@@ -105,6 +87,4 @@ add-lines-spec =
     same-length-3
     returns-3
     same-length-4
-    returns-4
-    same-length-5
-    returns-5)
+    returns-4)

@@ -1,0 +1,4 @@
+pub mod Replies
+pub mod Pieces
+pub mod Ends
+pub mod LongLines

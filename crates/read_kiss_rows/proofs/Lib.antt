@@ -1,0 +1,4 @@
+pub mod Called
+pub mod Joined
+pub mod NamesMeant
+pub mod Meant
