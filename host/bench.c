@@ -1,4 +1,6 @@
-/* The benchmark: the library, the native encoder and the second encoder on the same listings, in one process, in turns. */
+/* The benchmark: the library, the native encoder and the second encoder on the same listings, in one process, in turns; then recorded
+   runs, and the library's checks. */
+#include "bench_check.h"
 #include "bench_listings.h"
 #include "bench_replay.h"
 #include "generate.h"
@@ -268,6 +270,7 @@ int main(void)
     for (unsigned at = 0; at < bench_plans_number; at++)
         print_row(at);
     bench_replays(SEED);
+    bench_checks();
     print_stacks();
     return 0;
 }

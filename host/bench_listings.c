@@ -1,4 +1,5 @@
-/* The benchmark's listings, drawn by chance from a seed: no two rows share an input vector, so none is refused. */
+/* The benchmark's listings, drawn by chance from a seed: no two rows share an input vector, so none is refused. Those of its checks are drawn by
+   rule. */
 #include "bench_listings.h"
 #include "chance.h"
 
@@ -107,4 +108,107 @@ void bench_draw(uint64_t seed, unsigned at, struct bench_listing *listing)
     for (unsigned dichotomy = 0; dichotomy < plan->dichotomies; dichotomy++)
         write_dichotomy(&chance, plan, listing);
     put_text(listing, "EN\n");
+}
+
+/* ---- checks ---- */
+
+#define CHECK_STATES 64
+#define CHECK_ROWS 128
+#define CHECK_INPUTS 16
+#define CHECK_OUTPUTS 32
+
+/* The input of row k: a controller's row asks its state's input for 0 or 1. A hard one asks for one of the 32 pairs of an input and a value,
+   each four times; or for such a pair of another input than the last, and for a value of the last one. */
+static void put_input(enum bench_check_kind kind, unsigned row, struct bench_listing *text)
+{
+    bool two = kind == BENCH_TWO_INPUTS;
+    unsigned asked = two ? row / 4 % (CHECK_INPUTS - 1) : row / 2 % CHECK_INPUTS;
+    for (unsigned place = 0; place < CHECK_INPUTS; place++) {
+        if (place == asked)
+            put(text, (char)('0' + row % 2));
+        else if (two && place == CHECK_INPUTS - 1)
+            put(text, (char)('0' + row / 2 % 2));
+        else
+            put(text, '-');
+    }
+}
+
+/* One output of 32: with one input a row each output is asked for by four of the pairs, and those of value 1 ask for the odd ones. */
+static void put_outputs(unsigned row, struct bench_listing *text)
+{
+    put_set(text, (uint64_t)1 << (row % 32 + row / 32 * 8) % CHECK_OUTPUTS, CHECK_OUTPUTS);
+}
+
+/* A controller's rows come two to a state, and go to the next state or back to the first; the others hold in all states and go to the first. */
+void bench_draw_check(enum bench_check_kind kind, struct bench_listing *listing)
+{
+    bool hard = kind != BENCH_CONTROLLER;
+    listing->length = 0;
+    put_text(listing, "MC 64 16 32 0\n");
+    for (unsigned row = 0; row < CHECK_ROWS; row++) {
+        unsigned state = row / 2;
+        put_text(listing, "PT ");
+        put_input(kind, row, listing);
+        put(listing, ' ');
+        put_set(listing, hard ? ~(uint64_t)0 : (uint64_t)1 << state, CHECK_STATES);
+        put(listing, ' ');
+        put_set(listing, (uint64_t)1 << (hard || row % 2 == 0 ? 0 : (state + 1) % CHECK_STATES), CHECK_STATES);
+        put(listing, ' ');
+        put_outputs(row, listing);
+        put(listing, '\n');
+    }
+    put_text(listing, "EN\n");
+}
+
+void bench_draw_codes(struct bench_listing *codes)
+{
+    codes->length = 0;
+    for (unsigned state = 0; state < CHECK_STATES; state++) {
+        put_text(codes, "SC ");
+        put_number(codes, state);
+        put(codes, ' ');
+        put_set(codes, (uint64_t)1 << state, CHECK_STATES);
+        put(codes, '\n');
+    }
+}
+
+static void put_same(char byte, unsigned places, struct bench_listing *text)
+{
+    for (unsigned place = 0; place < places; place++)
+        put(text, byte);
+}
+
+/* At the last input no row of value 0 fires, so that output 0 is 0 there. */
+static void put_wrong(struct bench_listing *cover)
+{
+    put_same('1', CHECK_INPUTS, cover);
+    put_set(cover, (uint64_t)1 << (CHECK_STATES - 1), CHECK_STATES);
+    put(cover, ' ');
+    put_same('0', CHECK_STATES, cover);
+    put_set(cover, 1, CHECK_OUTPUTS);
+    put(cover, '\n');
+}
+
+void bench_draw_cover(enum bench_check_kind kind, bool wrong, struct bench_listing *cover)
+{
+    unsigned rows = 2 * CHECK_ROWS - (wrong ? 1 : 0);
+    cover->length = 0;
+    put_text(cover, ".i 80\n.o 96\n.type fd\n.p 256\n");
+    for (unsigned row = 0; row < rows; row++) {
+        if (row == 2 * CHECK_ROWS - 1)
+            put_same('-', CHECK_INPUTS, cover);
+        else
+            put_input(kind, row % CHECK_ROWS, cover);
+        put_same('-', CHECK_STATES, cover);
+        put(cover, ' ');
+        put_set(cover, row < CHECK_ROWS ? 0 : 1, CHECK_STATES);
+        if (row < CHECK_ROWS)
+            put_outputs(row, cover);
+        else
+            put_same('0', CHECK_OUTPUTS, cover);
+        put(cover, '\n');
+    }
+    if (wrong)
+        put_wrong(cover);
+    put_text(cover, ".e\n");
 }

@@ -10,12 +10,17 @@ FIELDS = ("groups states rows di asked p demand bits passes looks library native
 
 STACKS = {"library": "the library's report", "cover": "the library's cover", "widths": "the library's widths",
           "report_part": "a part of a report", "cover_part": "a part of a cover", "replay": "the library's replay",
-          "replay_part": "a part of a replay", "native": "the native report"}
+          "replay_part": "a part of a replay", "check": "the library's check", "native": "the native report"}
+
+CHECKS = {"own_random": "our cover of `random`", "own_pairs": "our cover of `pairs`", "own_halves": "our cover of `halves`",
+          "own_controller": "our cover of a controller", "own_one_input": "our cover of rows that care for one input each",
+          "own_two_inputs": "our cover of rows that care for one input and the last", "one_input": "one input a row, one-hot",
+          "two_inputs": "one input and the last a row, one-hot", "wrong_at_the_end": "one input a row, one-hot, wrong at the very end"}
 
 
 def read_results(path):
-    """The results by kind of line: rows as dictionaries, replays as lists of numbers, the others as they stand."""
-    rows, stacks, replays, facts = [], {}, [], {}
+    """The results by kind of line: rows as dictionaries, replays as lists of numbers, checks as lists of words, the others as they stand."""
+    rows, stacks, replays, checks, facts = [], {}, [], [], {}
     for line in open(path):
         word, _, rest = line.strip().partition(" ")
         if word == "row":
@@ -27,9 +32,11 @@ def read_results(path):
             stacks[name] = int(size), plan
         elif word == "replay":
             replays.append([float(value) for value in rest.split()])
+        elif word == "check":
+            checks.append(rest.split())
         else:
             facts[word] = rest
-    return rows, stacks, replays, facts
+    return rows, stacks, replays, checks, facts
 
 
 def sections(elf):
@@ -105,7 +112,17 @@ def replay_table(replays):
         yield f"| {counts} | {library / 1000:.2f} | {step:,.0f} | {second / 1000:.2f} | {second_step:,.0f} |"
 
 
-def figures(rows, stacks, replays, facts, sizes):
+def check_table(checks):
+    """Codes and covers from elsewhere: what they are, their sizes, the answer, and the library's time."""
+    yield "| check | states | rows | cover rows | inputs | bits | answer | library ms (least to greatest) |"
+    yield "|---|---:|---:|---:|---:|---:|---|---:|"
+    for name, states, rows, cover_rows, inputs, bits, answer, median, least, greatest in checks:
+        times = [f"{float(time) / 1000:,.2f}" for time in (median, least, greatest)]
+        yield f"| {CHECKS[name]} | {states} | {rows} | {cover_rows} | {inputs} | {bits} | `{answer.replace('_', ' ')}` " \
+              f"| {times[0]} ({times[1]} to {times[2]}) |"
+
+
+def figures(rows, stacks, replays, checks, facts, sizes):
     ratios = [row["by_native"] for row in rows]
     yield f"Run on {facts['date']}, {facts['machine']}; {facts['checked']} listings compared first, without a difference."
     yield ""
@@ -120,6 +137,8 @@ def figures(rows, stacks, replays, facts, sizes):
     yield from slopes(rows)
     yield ""
     yield from replay_table(replays)
+    yield ""
+    yield from check_table(checks)
     yield ""
     yield "| Size | bytes |"
     yield "|---|---:|"
@@ -195,11 +214,11 @@ def plot(rows, facts):
 
 
 def main(results, archive, docs):
-    rows, stacks, replays, facts = read_results(results)
+    rows, stacks, replays, checks, facts = read_results(results)
     page = open(f"{docs}/BENCHMARK.md").read()
     before, _, rest = page.partition(BEGIN)
     _, _, after = rest.partition(END)
-    lines = "\n".join(figures(rows, stacks, replays, facts, static_size(archive)))
+    lines = "\n".join(figures(rows, stacks, replays, checks, facts, static_size(archive)))
     open(f"{docs}/BENCHMARK.md", "w").write(f"{before}{BEGIN}\n{lines}\n{END}{after}")
     open(f"{docs}/benchmark.svg", "w").write("\n".join(plot(rows, facts)) + "\n")
 

@@ -6,10 +6,9 @@
 #define AMPLE (SECOND_TEXT + 4096)
 #define BUFFER (COMPARE_TEXT + 4096)
 #define ARENA (GUARD + BUFFER + GUARD)
-#define GIVEN 70000
 
 uint8_t compare_ample[COMPARE_TEXT];
-static uint8_t came[ARENA], ours[ARENA], theirs[ARENA], given_came[GIVEN];
+static uint8_t came[ARENA], ours[ARENA], theirs[ARENA], given_came[COMPARE_TEXTS][COMPARE_GIVEN];
 
 uint64_t compare_now(void)
 {
@@ -45,6 +44,36 @@ static void print_answer(const char *who, int64_t answer, const uint8_t *buffer,
     }
 }
 
+static unsigned texts_of(const struct compare_given *given)
+{
+    unsigned number = 1;
+    while (number < COMPARE_TEXTS && given->texts[number].bytes != NULL)
+        number++;
+    return number;
+}
+
+static void keep_given(const struct compare_given *given)
+{
+    for (unsigned at = 0; at < texts_of(given); at++)
+        memcpy(given_came[at], given->texts[at].bytes, given->texts[at].length);
+}
+
+static bool given_is_as_it_came(const struct compare_given *given)
+{
+    for (unsigned at = 0; at < texts_of(given); at++)
+        if (memcmp(given_came[at], given->texts[at].bytes, given->texts[at].length) != 0)
+            return false;
+    return true;
+}
+
+static void print_given(const struct compare_given *given)
+{
+    for (unsigned at = 0; at < texts_of(given); at++) {
+        printf("given %llu bytes (%s):\n", (unsigned long long)given->texts[at].length, given->kind);
+        print_bytes(given_came[at], given->texts[at].length);
+    }
+}
+
 /* The two buffers that are lent, alike, and what is given as it came. */
 static void lay_out(struct chance *chance, const struct compare_given *given, size_t length)
 {
@@ -55,7 +84,7 @@ static void lay_out(struct chance *chance, const struct compare_given *given, si
     }
     memcpy(ours, came, arena);
     memcpy(theirs, came, arena);
-    memcpy(given_came, given->bytes, given->length);
+    keep_given(given);
 }
 
 /* How long a buffer to lend for an answer of this length, which may be 0: often enough, sometimes just enough, one short, or none. */
@@ -106,7 +135,7 @@ static const char *difference(const struct compare_given *given, size_t length, 
         return "the library changed bytes behind its answer's length";
     if (memcmp(ours, theirs, GUARD + length + GUARD) != 0)
         return "the bytes differ";
-    if (memcmp(given_came, given->bytes, given->length) != 0)
+    if (!given_is_as_it_came(given))
         return "the library changed what it was given";
     return NULL;
 }
@@ -115,9 +144,8 @@ static void print_difference(const char *name, const char *what, const struct co
                              int64_t our_answer, int64_t their_answer)
 {
     printf("DIFFERENCE in %s: %s\n", name, what);
-    printf("buffer of %llu bytes; given %llu bytes (%s):\n", (unsigned long long)length, (unsigned long long)given->length,
-           given->kind);
-    print_bytes(given_came, given->length);
+    printf("buffer of %llu bytes\n", (unsigned long long)length);
+    print_given(given);
     print_answer("the library", their_answer, theirs + GUARD, length);
     print_answer("the second encoder", our_answer, ours + GUARD, length);
     for (size_t at = 0; at < GUARD + length + GUARD; at++) {
@@ -140,7 +168,7 @@ static bool compare_call(struct compare_tally *tally, entry *library, const stru
                          int64_t our_answer)
 {
     uint64_t start = compare_now();
-    int64_t their_answer = library(given->bytes, given->length, theirs + GUARD, length);
+    int64_t their_answer = library(given->texts[0].bytes, given->texts[0].length, theirs + GUARD, length);
     tally->library_time += compare_now() - start;
 
     tally->seen[place_of(our_answer)]++;
@@ -154,7 +182,7 @@ bool compare_entry(struct chance *chance, struct compare_tally *tally, entry *li
                    const struct compare_given *given, int64_t *answered)
 {
     uint64_t start = compare_now();
-    *answered = second(given->bytes, given->length, compare_ample, sizeof compare_ample);
+    *answered = second(given->texts[0].bytes, given->texts[0].length, compare_ample, sizeof compare_ample);
     tally->second_time += compare_now() - start;
 
     size_t length = draw_buffer(chance, *answered);
@@ -167,7 +195,7 @@ bool compare_lent(struct chance *chance, struct compare_tally *tally, entry *lib
 {
     lay_out(chance, given, length);
     uint64_t start = compare_now();
-    *answered = second(given->bytes, given->length, ours + GUARD, length);
+    *answered = second(given->texts[0].bytes, given->texts[0].length, ours + GUARD, length);
     tally->second_time += compare_now() - start;
     return compare_call(tally, library, given, length, *answered);
 }

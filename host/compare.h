@@ -1,5 +1,5 @@
 /* One call of the library against the second encoder's answer: the answers, every byte of the lent buffer and around it, and the
-   text that was given. */
+   texts that were given. */
 #ifndef COMPARE_H
 #define COMPARE_H
 
@@ -17,10 +17,19 @@ struct compare_tally {
     uint64_t library_time;
 };
 
-/* What is given: its bytes, which nobody may change, and what to call it when a difference is printed. */
-struct compare_given {
-    uint8_t *bytes;
+/* No more texts are given to one call (a listing, codes and a cover), and none is longer (a run). */
+#define COMPARE_TEXTS 3
+#define COMPARE_GIVEN 210000
+
+struct compare_text {
+    uint8_t *bytes; /* NULL where there is no such text */
     size_t length;
+};
+
+/* What is given: the texts, which nobody may change, and what to call them when a difference is printed. An entry is called with the first
+   of them; one that takes more finds the others by itself. */
+struct compare_given {
+    struct compare_text texts[COMPARE_TEXTS];
     const char *kind;
 };
 

@@ -70,7 +70,7 @@ static bool compare_text(uint64_t seed, uint64_t number)
     struct chance chance = chance_of(~seed, number);
     int64_t report, cover, listed, named;
     kiss_generate(seed, number, number % 2 == 1, &text);
-    struct compare_given given = {text.bytes, text.length, kiss_kind_name(text.kind)};
+    struct compare_given given = {{{text.bytes, text.length}}, kiss_kind_name(text.kind)};
     bool same = compare_entry(&chance, &report_tally, tsurmokan_kiss_report, second_kiss_report, &given, &report) &&
                 compare_entry(&chance, &cover_tally, tsurmokan_kiss_cover, second_kiss_cover, &given, &cover) &&
                 compare_entry(&chance, &names_tally, tsurmokan_kiss_names, second_kiss_names, &given, &named) &&

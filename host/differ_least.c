@@ -28,7 +28,7 @@ static bool compare_listing(uint64_t seed, uint64_t number)
     struct chance chance = chance_of(~seed, number);
     int64_t least, cover;
     generate_least(seed, number, number % 3 == 2, &listing);
-    struct compare_given given = {listing.bytes, listing.length, generate_least_name(listing.kind)};
+    struct compare_given given = {{{listing.bytes, listing.length}}, generate_least_name(listing.kind)};
     uint64_t start = compare_now();
     bool same = compare_entry(&chance, &cover_tally, tsurmokan_least_cover, second_least_cover, &given, &cover);
     uint64_t before = least_tally.library_time;

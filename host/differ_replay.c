@@ -14,6 +14,7 @@
 
 /* No text is longer than tsurmokan.h says. */
 _Static_assert(SECOND_REPLAY_TEXT <= TSURMOKAN_REPLAY_ROOM, "the room of a replay");
+_Static_assert(RUN_BYTES <= COMPARE_GIVEN, "the room of a run");
 
 static const struct replay_entries second_entries = {"the second encoder", second_replay, second_replay_part};
 static const struct replay_entries library_entries = {"the library", tsurmokan_replay, tsurmokan_replay_part};
@@ -24,7 +25,6 @@ static uint64_t none_left, gathered;
 static uint64_t by_kind[RUN_KINDS], steps_by_kind[RUN_KINDS], time_by_kind[RUN_KINDS];
 
 static struct run_text run;
-static uint8_t run_came[RUN_BYTES];
 
 /* ---- the entries as the comparison wants them: the run and the place stand here ---- */
 
@@ -57,14 +57,6 @@ static int64_t our_part(const uint8_t *listing, size_t length, uint8_t *out, siz
 
 /* ---- one run ---- */
 
-static bool run_is_as_it_came(void)
-{
-    if (memcmp(run_came, run.bytes, run.length) == 0)
-        return true;
-    printf("DIFFERENCE: the library changed the run\n");
-    return false;
-}
-
 /* From any place of the text or behind it, often where a line begins; with any room, often about that of a line or some. */
 static void draw_part(struct chance *chance, size_t *room)
 {
@@ -86,7 +78,7 @@ static void draw_part(struct chance *chance, size_t *room)
 
 static bool compare_part(struct chance *chance, const struct compare_given *given, size_t room, int64_t *answer)
 {
-    bool same = compare_lent(chance, &part_tally, library_part, our_part, given, room, answer) && run_is_as_it_came();
+    bool same = compare_lent(chance, &part_tally, library_part, our_part, given, room, answer);
     if (!same)
         printf("from %llu\n", (unsigned long long)part_from);
     none_left += *answer == 0;
@@ -131,14 +123,11 @@ static bool compare_run(uint64_t seed, uint64_t number)
     struct chance chance = chance_of(~seed, number);
     uint64_t start = compare_now();
     run_generate(seed, number, &run);
-    memcpy(run_came, run.bytes, run.length);
-    struct compare_given given = {run.listing.bytes, run.listing.length, run_kind_name(run.kind)};
-    bool same = compare_entry(&chance, &replay_tally, library_replay, our_replay, &given, &whole_answer) && run_is_as_it_came();
+    struct compare_given given = {{{run.listing.bytes, run.listing.length}, {run.bytes, run.length}}, run_kind_name(run.kind)};
+    bool same = compare_entry(&chance, &replay_tally, library_replay, our_replay, &given, &whole_answer);
     if (same && whole_answer > 0)
         memcpy(whole, compare_ample, (size_t)whole_answer);
     if (!same || !compare_parts(&chance, &given)) {
-        printf("the run, of %llu bytes:\n%.*s|\n", (unsigned long long)run.length, (int)(run.length < 3000 ? run.length : 3000),
-               (const char *)run_came);
         printf("seed %llu, run %llu\n", (unsigned long long)seed, (unsigned long long)number);
         return false;
     }

@@ -1,12 +1,13 @@
 /* Prints the second encoder's answer for the text on standard input, as the programs print theirs: the report, the cover or the
-   widths of a listing, its report or cover in the fewest bits, or what it says of a KISS2 text; or the replay of a listing and a run, in files
-   of these names. */
+   widths of a listing, its report or cover in the fewest bits, or what it says of a KISS2 text; or, in files of these names, the replay of a
+   listing and a run, or what codes and a cover from elsewhere are worth for a listing. */
 #include "second.h"
 
 /* More than a run of 10,001 inputs has. */
 #define RUN_BYTES 400000
 
 static uint8_t listing[SECOND_BYTES + 1], run_bytes[RUN_BYTES];
+static uint8_t codes[1 << 20], cover[1 << 22];
 static uint8_t out[SECOND_REPLAY_TEXT];
 
 static bool put(const uint8_t *bytes, size_t length)
@@ -75,17 +76,29 @@ static int say_replay(const char *listing_name, const char *run_name)
     return say(second_replay(listing, (size_t)length, run_bytes, (size_t)run_length, out, sizeof out));
 }
 
+static int say_check(const char *listing_name, const char *codes_name, const char *cover_name)
+{
+    long length = read_named(listing_name, listing, sizeof listing);
+    long codes_length = read_named(codes_name, codes, sizeof codes);
+    long cover_length = read_named(cover_name, cover, sizeof cover);
+    if (length < 0 || codes_length < 0 || cover_length < 0)
+        return 2;
+    return say(second_check(listing, (size_t)length, codes, (size_t)codes_length, cover, (size_t)cover_length, out, sizeof out));
+}
+
 int main(int words, char **word)
 {
     int64_t (*run)(const uint8_t *, size_t, uint8_t *, size_t) = NULL;
     if (words == 4 && strcmp(word[1], "replay") == 0)
         return say_replay(word[2], word[3]);
+    if (words == 5 && strcmp(word[1], "check") == 0)
+        return say_check(word[2], word[3], word[4]);
     for (unsigned at = 0; words == 2 && at < LENGTH_OF(entries); at++)
         if (strcmp(word[1], entries[at].word) == 0)
             run = entries[at].run;
     if (run == NULL) {
         printf("usage: say report|cover|widths|least|least-cover <LISTING, say kiss_report|kiss_cover|kiss_listing|kiss_names <TEXT,\n"
-               "or say replay LISTING RUN\n");
+               "say replay LISTING RUN, or say check LISTING CODES COVER\n");
         return 2;
     }
     long length = read_all(0, listing, sizeof listing);

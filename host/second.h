@@ -40,8 +40,8 @@
 #define SECOND_STEPS 10000
 #define SECOND_REPLAY_TEXT (SECOND_STEPS * 104 + 11)
 
-/* 01, "Refusal numbers", 12 of 02's request 01, 13 of its request 05, 14 of its request 08, 16 of its request 11 and 17 of its request 13.
-   SECOND_FINE stands for no refusal; 8 is unused (02, request 06). */
+/* 01, "Refusal numbers", 12 of 02's request 01, 13 of its request 05, 14 of its request 08, 15 of its request 10, 16 of its request 11 and 17
+   of its request 13. SECOND_FINE stands for no refusal; 8 is unused (02, request 06). */
 enum {
     SECOND_FINE = 0,
     SECOND_BAD_LINE = 1,
@@ -57,6 +57,7 @@ enum {
     SECOND_KISS = 12,     /* a name that is too long, or a number that disagrees with the lines, in a KISS2 text */
     SECOND_UNSTABLE = 13, /* a destination of a flow table that is not stable in its column */
     SECOND_STUCK = 14,    /* a step of a run that names no next state */
+    SECOND_MISFIT = 15,   /* a cover whose `.i` or `.o` does not fit the listing and the codes */
     SECOND_NO_CODE = 16,  /* no code of 5 bits meets everything */
     SECOND_UNTOLD = 17    /* a state of a Moore machine without an `OU` line */
 };
@@ -129,6 +130,7 @@ int64_t second_cover_part(const uint8_t *listing, size_t listing_length, size_t 
 /* The report and the cover of a small machine in a code of the fewest bits (02, request 11). */
 int64_t second_least(const uint8_t *listing, size_t listing_length, uint8_t *out, size_t out_length);
 int64_t second_least_cover(const uint8_t *listing, size_t listing_length, uint8_t *out, size_t out_length);
+
 /* The same of a KISS2 text (02, request 01); the listing that it is, as text, with the refusals of the report but 7; and the
    names of its states. */
 int64_t second_kiss_report(const uint8_t *text, size_t text_length, uint8_t *out, size_t out_length);
@@ -142,6 +144,11 @@ int64_t second_replay(const uint8_t *listing, size_t listing_length, const uint8
                       size_t out_length);
 int64_t second_replay_part(const uint8_t *listing, size_t listing_length, const uint8_t *run, size_t run_length, size_t from,
                            uint8_t *out, size_t out_length);
+
+/* What codes and a cover from elsewhere are worth for a listing (02, request 10): `OK`, `UN` and a requirement, or `AT`, a state and an
+   input. */
+int64_t second_check(const uint8_t *listing, size_t listing_length, const uint8_t *codes, size_t codes_length,
+                     const uint8_t *cover, size_t cover_length, uint8_t *out, size_t out_length);
 
 /* The steps, for the tests. */
 
@@ -182,6 +189,7 @@ typedef struct second_refusal second_finder(const uint8_t *listing, size_t lengt
                                             struct second_requirements *requirements, struct second_code *code);
 int64_t second_report_by(second_finder *find, const uint8_t *listing, size_t listing_length, uint8_t *out, size_t out_length);
 int64_t second_cover_by(second_finder *find, const uint8_t *listing, size_t listing_length, uint8_t *out, size_t out_length);
+
 /* second_kiss.c */
 
 /* The headers of KISS2 that stand at most once: `.i .o .s .p .r`, in this order. */
@@ -220,6 +228,51 @@ int64_t second_report_of(second_reader *read, const uint8_t *text, size_t length
 int64_t second_cover_of(second_reader *read, const uint8_t *text, size_t length, uint8_t *out, size_t out_length);
 char second_face_place(uint64_t group, uint64_t bit);
 int64_t second_part(const uint8_t *text, size_t text_length, size_t from, uint8_t *out, size_t out_length);
+
+/* second_check.c */
+
+/* "a 257th cover row is 2"; the places of a row's outputs that fit a listing: the next code and the outputs. */
+#define SECOND_PLA_ROWS 256
+#define SECOND_PLA_PLACES (SECOND_WIDTH + SECOND_OUTPUTS)
+
+/* A cover from elsewhere; a row's characters, where they stand in its text. */
+struct second_pla_row {
+    const uint8_t *input;
+    const uint8_t *output;
+};
+
+struct second_pla {
+    unsigned inputs;
+    unsigned outputs;
+    bool typed;    /* there is a line `.type fd` */
+    unsigned said; /* the number of `.p` */
+    unsigned rows; /* those read */
+    struct second_pla_row row[SECOND_PLA_ROWS];
+};
+
+struct second_check_given {
+    const uint8_t *listing;
+    size_t listing_length;
+    const uint8_t *codes;
+    size_t codes_length;
+    const uint8_t *cover;
+    size_t cover_length;
+};
+
+struct second_checked {
+    struct second_machine machine;
+    struct second_code code; /* bits and columns alone */
+    struct second_pla pla;
+};
+
+struct second_refusal second_read_codes(const uint8_t *text, size_t length, unsigned states, struct second_code *code);
+struct second_refusal second_read_pla(const uint8_t *text, size_t length, struct second_pla *pla);
+struct second_refusal second_check_read(const struct second_check_given *given, struct second_checked *checked);
+
+/* What the listing wants of the next code and the outputs: `0`, `1`, or `-` for anything; and whether rows that say so agree. */
+void second_want(const struct second_machine *machine, const struct second_code *code, unsigned state, unsigned input,
+                 char want[SECOND_PLA_PLACES]);
+bool second_agrees(char want, bool one, bool dash);
 
 /* second_trial.c: the trial record (01, "Looks"). Each of these answers SECOND_FINE or SECOND_BAD_CALL. */
 struct second_trial {

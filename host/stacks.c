@@ -1,5 +1,6 @@
 /* How much stack each entry takes, by painting, on machines of every family, good and damaged; fails where one takes more than it is allowed. */
 #include "generate.h"
+#include "generate_check.h"
 #include "generate_kiss.h"
 #include "generate_least.h"
 #include "second.h"
@@ -8,10 +9,10 @@
 
 #define SEED 1
 #define MOST 40960u       /* what was asked of a call on a listing, in 02's request 09 */
-#define MOST_OTHER 98304u /* a KISS2 text's entries, and those of a recorded run, of which nothing was asked: so much that growth is seen */
+#define MOST_OTHER 98304u /* a KISS2 text's entries, and those of a recorded run and of a check, of which nothing was asked: so much that growth is seen */
 
 /* What a machine is drawn as. */
-enum drawn { DRAWN_LISTING, DRAWN_SMALL, DRAWN_KISS };
+enum drawn { DRAWN_LISTING, DRAWN_SMALL, DRAWN_KISS, DRAWN_CHECK };
 
 static uint8_t out[SECOND_TEXT];
 
@@ -39,6 +40,15 @@ static int64_t replay_part(const uint8_t *listing, size_t listing_length, uint8_
     return tsurmokan_replay_part(listing, listing_length, run, sizeof run - 1, 0, text, text_length);
 }
 
+/* The check of the codes and the cover that are drawn with a listing. */
+static struct generated_check checked;
+
+static int64_t check(const uint8_t *listing, size_t listing_length, uint8_t *text, size_t text_length)
+{
+    return tsurmokan_check(listing, listing_length, checked.codes.bytes, checked.codes.length, checked.cover.bytes, checked.cover.length, text,
+                           text_length);
+}
+
 static const struct entry {
     const char *name;
     encoder *call;
@@ -58,9 +68,10 @@ static const struct entry {
     {"tsurmokan_kiss_names", tsurmokan_kiss_names, DRAWN_KISS, MOST_OTHER},
     {"tsurmokan_replay", replay, DRAWN_LISTING, MOST_OTHER},
     {"tsurmokan_replay_part", replay_part, DRAWN_LISTING, MOST_OTHER},
+    {"tsurmokan_check", check, DRAWN_CHECK, MOST_OTHER},
 };
 
-/* How many machines of a sort there are: one of each family, and as many damaged ones. */
+/* How many machines of a sort there are: one of each family, and as many damaged ones; for checks as many of the machines that they have. */
 static unsigned machines_of(enum drawn drawn)
 {
     switch (drawn) {
@@ -92,6 +103,9 @@ static size_t depth_on(const struct entry *entry, unsigned number)
         else
             kiss_generate(SEED, number, true, &text);
         return stack_depth(entry->call, text.bytes, text.length, out, sizeof out);
+    case DRAWN_CHECK:
+        generate_check(SEED, number, number % 2 == 1, &checked);
+        return stack_depth(entry->call, checked.listing.bytes, checked.listing.length, out, sizeof out);
     default:
         if (number < GENERATE_FAMILIES)
             generate_good(&chance, (enum generate_family)number, &listing);

@@ -109,6 +109,24 @@ extern int64_t tsurmokan_replay(const uint8_t *listing, size_t listing_length, c
 extern int64_t tsurmokan_replay_part(const uint8_t *listing, size_t listing_length, const uint8_t *run, size_t run_length, size_t from,
                                      uint8_t *out, size_t out_length);
 
+/* ---- codes and a cover from elsewhere ---- */
+
+/* No answer of a check is longer: `AT 63 65535` and its LF. */
+#define TSURMOKAN_CHECK_ROOM 12
+
+/* What codes and a cover that any program made are worth for a listing (docs/CHECK.md has the forms).
+ *   listing, listing_length   the listing's bytes, any bytes at all
+ *   codes, codes_length       a line `SC state code` for each state in order, and nothing else
+ *   cover, cover_length       a cover in those codes, with or without `.type fd`
+ *   out, out_length           as above; no two of the four may overlap where one of them is `out`, and no pointer is null
+ * Writes `OK` and LF where the codes differ, every group requirement is met, and the cover agrees with the listing in every state at every
+ * input; else `UN`, the lowest pair or group requirement that is unmet, and LF; else, where all are met, `AT`, the lowest state where the
+ * cover does not agree, the first such input of that state as a number, its leftmost input the highest digit, and LF. Answers the number of
+ * bytes written, or a refusal, as above: the listing's own, but never 7 or 9; 1 for a line of the codes, then of the cover; 2 for a 257th
+ * row of the cover; 15 for a cover that does not fit the listing and the codes; 10. TSURMOKAN_CHECK_ROOM bytes are always enough. */
+extern int64_t tsurmokan_check(const uint8_t *listing, size_t listing_length, const uint8_t *codes, size_t codes_length,
+                               const uint8_t *cover, size_t cover_length, uint8_t *out, size_t out_length);
+
 /* ---- single moves on one bit ---- */
 
 /* No record lists more requirements. */

@@ -8,7 +8,7 @@ use native.Mathlib.Omega.{arith}
 use lib.Dec.{eqb}
 use lib.ListN.{length, getD}
 use Rattle.sets.specs.Sets.{has}
-use Rattle.sets.proofs.Members.{has-lt, same-mask}
+use Rattle.sets.proofs.Members.{has-lt, same-mask, below-power}
 use Rattle.rules.specs.Least.{codesOf, First, first, none, firstWith}
 use Rattle.rules.proofs.Codes.{code-listed, listed-code, none-has, has-none, leading, tried, first-tried}
 use Rattle.families.specs.Families.{without}
@@ -16,10 +16,6 @@ use Rattle.families.proofs.Parts.{rest-lt, has-rest}
 use Rattle.code_search.specs.Search.{behind, takesAll, searched}
 
 -- ---- two members' sets, taken off in either order
-
-below-power : (m : ℕ) → m < 2 ^ m
-below-power zero = omega arith
-below-power (suc m) = omega (arith, below-power m)
 
 pub either-order : (m x y : ℕ) → without (without m x) y ≡ without (without m y) x
 either-order m x y =

@@ -1,13 +1,54 @@
-// What every program does: it reads a listing from standard input, and prints what is wanted of it, in parts, on standard output. No buffer is larger than
-// the largest listing.
-ghost use Prim.Native.Nat.{_<_, _^_};
+// What programs do: most read a listing from standard input, and print what is wanted of it, in parts, on standard output; some read the files that their
+// arguments name, in pieces. No buffer is larger than the largest listing.
+ghost use mathlib.Core.Path.{_≡_};
+ghost use Prim.Native.Nat.{_≤_, _<_, _^_};
 ghost use lib.ListN.{length};
 ghost use Rattle.rules.specs.Answers.{printed};
 ghost use Rattle.host_replies.specs.Ready.{replyOf};
+ghost use Rattle.host_programs.specs.Moving.{movedCount, movedUp};
 use host_replies::Ready;
 use host_replies::plans::Wanted;
 use libc::STDIN_FILENO;
 use libc::STDOUT_FILENO;
+
+// The file that an argument names, opened for reading; below 0 where it cannot be, which is told on standard error: the file, or what arguments there are to be.
+pub fn open_argument(i: usize, usage: &[u8]) -> i32 {
+    let mut name = io::buffer();
+    let length = os::arg(i, &mut name);
+    if os::errno() != 0 {
+        os::fail(usage);
+        return -1;
+    }
+    let fd = os::open_read(&name[..length]);
+    if fd < 0 {
+        os::fail(&name[..length]);
+    }
+    fd
+}
+
+// Reads behind the bytes that are held, until the buffer is full or the file ends: how many bytes it then has.
+pub fn fill(fd: i32, bytes: &mut [u8], held: usize) -> usize
+    ensures { λ r. ⌜ r ≤ length (now (bytes .exit)) ⌝ }
+{
+    let from = sets::least(held, bytes.len());
+    let read = io::read_full(fd, &mut bytes[from..]);
+    from + read
+}
+
+// The bytes from one place to another moved to the start: how many they are.
+pub fn move_up(bytes: &mut [u8], from: usize, end: usize) -> usize
+    ensures count { λ r. ⌜ r ≡ movedCount from end (now (bytes .entry)) ⌝ }
+    ensures bytes { λ _. ⌜ now (bytes .exit) ≡ movedUp from end (now (bytes .entry)) ⌝ }
+    ensures within { λ r. ⌜ r ≤ length (now (bytes .exit)) ⌝ }
+{
+    let stop = sets::least(end, bytes.len());
+    let mut k: usize = 0;
+    while from < stop - k {
+        bytes[k] = bytes[from + k];
+        k += 1;
+    }
+    k
+}
 
 // Whether a listing goes on behind the bytes read: where they fill the buffer, one more is tried.
 pub fn goes_on(fd: i32, read: usize) -> bool {

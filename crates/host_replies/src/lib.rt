@@ -42,7 +42,7 @@ pub struct Ready {
 }
 
 // Any bytes, read as a text of that form. Each reader is called in one place.
-fn read_as(form: Form, bytes: &[u8]) -> Reading
+pub fn read_as(form: Form, bytes: &[u8]) -> Reading
     ensures { λ r. ⌜ r ≡ readingAs form (now (bytes .entry)) ⌝ }
 {
     if plans::is_kiss(form) {

@@ -25,21 +25,6 @@ struct Going {
     held: usize,
 }
 
-// The file that an argument names, opened for reading; below 0 where it cannot be, which is told on standard error.
-fn open_argument(i: usize) -> i32 {
-    let mut name = io::buffer();
-    let length = os::arg(i, &mut name);
-    if os::errno() != 0 {
-        os::fail(b"replay LISTING RUN");
-        return -1;
-    }
-    let fd = os::open_read(&name[..length]);
-    if fd < 0 {
-        os::fail(&name[..length]);
-    }
-    fd
-}
-
 // The listing, read and coded for its cover.
 fn read_ready(fd: i32) -> Ready {
     let mut listing = io::large_buffer();
@@ -54,15 +39,6 @@ fn piece_buffer() -> [u8; PIECE]
     [0; PIECE]
 }
 
-// Reads behind the bytes that are held, until the buffer is full or the run ends: how many bytes it then has.
-fn fill(fd: i32, bytes: &mut [u8], held: usize) -> usize
-    requires { ⌜ held ≤ length (now bytes) ⌝ }
-    ensures { λ r. ⌜ r ≤ length (now (bytes .exit)) ⌝ }
-{
-    let read = io::read_full(fd, &mut bytes[held..]);
-    held + read
-}
-
 // How many of the bytes read are replayed now: at the end of the run all, else the whole lines.
 fn piece_of(bytes: &[u8], filled: usize, last: bool) -> usize
     requires { ⌜ filled ≤ length (now bytes) ⌝ }
@@ -72,19 +48,6 @@ fn piece_of(bytes: &[u8], filled: usize, last: bool) -> usize
         return filled;
     }
     host_replay::piece_end(&bytes[..filled])
-}
-
-// The bytes from one place to another moved to the start: how many they are.
-fn move_up(bytes: &mut [u8], from: usize, end: usize) -> usize
-    requires { ⌜ (from ≤ end) × (end ≤ length (now bytes)) ⌝ }
-    ensures { λ r. ⌜ r ≤ length (now (bytes .exit)) ⌝ }
-{
-    let mut k: usize = 0;
-    while k < end - from {
-        bytes[k] = bytes[from + k];
-        k += 1;
-    }
-    k
 }
 
 // Whether a run may go on from a place.
@@ -116,11 +79,11 @@ fn print_some(m: Machines, going: Going, fd: i32, bytes: &mut [u8], out: &mut [u
 {
     let from = going.shown;
     let place = from.place;
-    let filled = fill(fd, bytes, going.held);
+    let filled = host_programs::fill(fd, bytes, going.held);
     let last = filled < bytes.len();
     let end = piece_of(bytes, filled, last);
     let shown = print_piece(m, place, &bytes[..end], out);
-    let held = move_up(bytes, end, filled);
+    let held = host_programs::move_up(bytes, end, filled);
     let reached = shown.place;
     let more = shown.more && !last;
     let next = Shown {
@@ -169,11 +132,11 @@ fn print_replay(ready: Ready, fd: i32) {
 }
 
 fn main() {
-    let listing = open_argument(1);
+    let listing = host_programs::open_argument(1, b"replay LISTING RUN");
     if listing < 0 {
         return;
     }
-    let run = open_argument(2);
+    let run = host_programs::open_argument(2, b"replay LISTING RUN");
     if run < 0 {
         return;
     }

@@ -11,7 +11,7 @@ use lib.Bits.{bitAnd, and-zero-r}
 use lib.Dec.{eqb, ltb}
 use lib.ListN.{length, getD, length-map, List·getD-append}
 use lib.Seq.{getD-append-add}
-use borrow.Author.Tests.{eq-eqb, ne-eqb, ltb-true, ltb-false}
+use borrow.Author.Tests.{eq-eqb, ne-eqb, eqb-true, eqb-false, not-true, not-false, ltb-true, ltb-false}
 use Rattle.sets.specs.Sets.{statesFrom}
 use Rattle.sets.proofs.Every.{and-first, and-second, and-both, at-every}
 use Rattle.sets.proofs.Places.{map-at}
@@ -207,8 +207,20 @@ module _ (t : Listing) (bits : List ℕ) (x s : ℕ) (some-inputs : 1 ≤ t .hea
 
 -- ---- what the listing means of the next state
 
+-- where none is named, no row that fires names one
+none-named : (h : Head) (x s : ℕ) (rs : List Row) → namedBy h x s rs ≡ 0 → (k : ℕ) → k < length rs → fires h (getD rs k noRow) x s ≡ true → getD rs k noRow .next ≡ 0
+unfolding namedBy
+none-named h x s [] e k l f = absurd (omega arith)
+none-named h x s (r ∷ rs) e k l f = go (fires h r x s && not (eqb (r .next) 0)) refl e k l f (none-named h x s rs)
+  where
+    go : (t : Bool) → (fires h r x s && not (eqb (r .next) 0)) ≡ t → cond t (r .next) (namedBy h x s rs) ≡ 0 → (k : ℕ) → k < length (r ∷ rs) → fires h (getD (r ∷ rs) k noRow) x s ≡ true
+        → (namedBy h x s rs ≡ 0 → (k : ℕ) → k < length rs → fires h (getD rs k noRow) x s ≡ true → getD rs k noRow .next ≡ 0) → getD (r ∷ rs) k noRow .next ≡ 0
+    go true q e k l f later = absurd (eqb-false (r .next) 0 (not-true (eqb (r .next) 0) (and-second (fires h r x s) (not (eqb (r .next) 0)) q)) e)
+    go false q e zero l f later = eqb-true (r .next) 0 (not-false (eqb (r .next) 0) (sym (ap (λ (b : Bool). b && not (eqb (r .next) 0)) f) ∙ q))
+    go false q e (suc k) l f later = later e k (omega arith) f
+
 -- the row that names it
-namer : (h : Head) (x s : ℕ) (rs : List Row) → (namedBy h x s rs ≡ 0 → ⊥)
+pub namer : (h : Head) (x s : ℕ) (rs : List Row) → (namedBy h x s rs ≡ 0 → ⊥)
     → (k : ℕ) × (k < length rs) × (fires h (getD rs k noRow) x s ≡ true) × (getD rs k noRow .next ≡ namedBy h x s rs)
 unfolding namedBy
 namer h x s [] o = absurd (o refl)
@@ -249,25 +261,26 @@ module _ (h : Head) (rs : List Row) (few : h .inputs ≤ most-inputs) (sound : (
       go (yes e) = inl e
       go (no n) = let m = namer h x s rs o in inr (same-next k (m .0) l (m .1) f (m .2) n (λ e. o (sym (m .3) ∙ e)) ∙ m .3)
 
-  -- so the rows that fire set a bit where the code of that state does
-  bit-said : (u ≡ 0 → ⊥) → (b : ℕ) → some (λ r. fires h r x s && not (eqb (bitAnd b (r .next)) 0)) rs ≡ not (eqb (bitAnd b u) 0)
-  bit-said o b = go (eqb (bitAnd b u) 0) refl
+  -- so of what no row says that names none, the rows that fire say what the listing means
+  pub next-said : (p : ℕ → Bool) → p 0 ≡ false → some (λ r. fires h r x s && p (r .next)) rs ≡ p u
+  next-said p silent = go (ℕ-discrete u 0)
     where
-      go : (t : Bool) → eqb (bitAnd b u) 0 ≡ t → some (λ r. fires h r x s && not (eqb (bitAnd b (r .next)) 0)) rs ≡ not t
-      go true e = none-some noRow _ rs (λ k l. each k l (fires h (getD rs k noRow) x s) refl)
+      quiet : ((k : ℕ) → k < length rs → fires h (getD rs k noRow) x s ≡ true → p (getD rs k noRow .next) ≡ false) → some (λ r. fires h r x s && p (r .next)) rs ≡ false
+      quiet none = none-some noRow _ rs (λ k l. each k l (fires h (getD rs k noRow) x s) refl)
         where
-          each : (k : ℕ) → k < length rs → (t : Bool) → fires h (getD rs k noRow) x s ≡ t → (t && not (eqb (bitAnd b (getD rs k noRow .next)) 0)) ≡ false
+          each : (k : ℕ) → k < length rs → (t : Bool) → fires h (getD rs k noRow) x s ≡ t → (t && p (getD rs k noRow .next)) ≡ false
           each k l false f = refl
-          each k l true f =
-              ⊎-elim
-              (λ q. ap (λ (v : ℕ). not (eqb (bitAnd b v) 0)) q ∙ ap (λ (v : ℕ). not (eqb v 0)) (and-zero-r b))
-              (λ q. ap (λ (v : ℕ). not (eqb (bitAnd b v) 0)) q ∙ ap not e)
-              (none-or-named o k l f)
-      go false e =
-          let m = namer h x s rs o in
-          at-some noRow (λ r. fires h r x s && not (eqb (bitAnd b (r .next)) 0)) rs (m .0) (m .1)
-          (and-both (fires h (getD rs (m .0) noRow) x s) (not (eqb (bitAnd b (getD rs (m .0) noRow .next)) 0)) (m .2)
-          (ap (λ (v : ℕ). not (eqb (bitAnd b v) 0)) (m .3) ∙ ap not e))
+          each k l true f = none k l f
+
+      go : Dec (u ≡ 0) → some (λ r. fires h r x s && p (r .next)) rs ≡ p u
+      go (yes e) = quiet (λ k l f. ap p (none-named h x s rs e k l f) ∙ silent) ∙ sym (ap p e ∙ silent)
+      go (no o) = by-named (p u) refl
+        where
+          by-named : (t : Bool) → p u ≡ t → some (λ r. fires h r x s && p (r .next)) rs ≡ p u
+          by-named true e =
+              let m = namer h x s rs o in
+              at-some noRow (λ r. fires h r x s && p (r .next)) rs (m .0) (m .1) (and-both (fires h (getD rs (m .0) noRow) x s) (p (getD rs (m .0) noRow .next)) (m .2) (ap p (m .3) ∙ e)) ∙ sym e
+          by-named false e = quiet (λ k l f. ⊎-elim (λ q. ap p q ∙ silent) (λ q. ap p q ∙ e) (none-or-named o k l f)) ∙ sym e
 
 -- ---- the two agree
 
@@ -330,7 +343,7 @@ module _ (t : Listing) (bits : List ℕ) (x s : ℕ) (sound : Sound t) (apart : 
       ones o =
           said one refl
           ∙ some-like _ _ (allRows t) (λ r. ap (λ (v : Bool). fires (t .head) r x s && v) (is-one (not (eqb (bitAnd b (r .next)) 0))))
-          ∙ bit-said (t .head) (allRows t) (sound .head .few-inputs) rows-sound apart x s o b
+          ∙ next-said (t .head) (allRows t) (sound .head .few-inputs) rows-sound apart x s (λ u. not (eqb (bitAnd b u) 0)) (ap (λ (v : ℕ). not (eqb v 0)) (and-zero-r b))
         where
           is-one : (v : Bool) → eqb (nought + digit v) one ≡ v
           is-one true = refl

@@ -27,6 +27,11 @@ state-listed a (suc n) s h q = go (ℕ-discrete s a) (λ o. state-listed (suc a)
     go (yes e) f = List·Memᴰ·head e
     go (no o) f = List·Memᴰ·tail (f o)
 
+pub state-below : (a n s : ℕ) → List·Memᴰ s (statesFrom a n) → (a ≤ s) × (s < a + n)
+unfolding statesFrom
+state-below a zero s m = absurd (List·Memᴰ·not-nil m)
+state-below a (suc n) s m = ⊎-elim (λ e. (omega arith, omega arith)) (λ q. let o = state-below (suc a) n s q in (omega (arith, o .0), omega (arith, o .1))) (List·Memᴰ·cases-cons m)
+
 -- ---- pairs
 
 pair-from : (a n i j : ℕ) → a ≤ i → i < j → j < a + n → List·Memᴰ (asks (only i) (only j)) (pairs (statesFrom a n))

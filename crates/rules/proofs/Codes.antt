@@ -5,13 +5,13 @@ use mathlib.Core.Logic.{_⊎_, inl, inr, ⊎-elim}
 use mathlib.Core.Bool.{Bool, true, false}
 use mathlib.Core.List.{List, [], _∷_, _++_, map, List·Memᴰ, List·Memᴰ·head, List·Memᴰ·tail, List·Memᴰ·not-nil, List·Memᴰ·cases-cons, List·Memᴰ·append-cases}
 use mathlib.Core.List.{Memᴰ·cast, Memᴰ·map, Memᴰ·of-map, Memᴰ·append-left, Memᴰ·append-right}
-use Prim.Native.Nat.{ℕ, zero, suc, _+_, _≤_, _<_}
+use Prim.Native.Nat.{ℕ, zero, suc, _<_}
 use native.Mathlib.Omega.{arith}
 use lib.ListN.{length}
 use Rattle.sets.specs.Sets.{statesFrom}
 use Rattle.rules.specs.Least.{inFront, codesOf, First, first, none, firstWith}
 use Rattle.rules.proofs.Runs.{Below}
-use Rattle.rules.proofs.Asked.{state-listed}
+use Rattle.rules.proofs.Asked.{state-listed, state-below}
 
 -- a code of w columns, each a number below c
 abbrev pub Columns : ℕ → ℕ → List ℕ → Type 0
@@ -62,11 +62,6 @@ code-listed c zero (v ∷ code) h = absurd (omega (arith, h .0))
 code-listed c (suc w) [] h = absurd (omega (arith, h .0))
 code-listed c (suc w) (v ∷ code) h =
     in-front (codesOf c w) (statesFrom 0 c) v code (state-listed 0 c v (omega arith) (omega (arith, h .1 .0))) (code-listed c w code (omega (arith, h .0), h .1 .1))
-
-state-below : (a n s : ℕ) → List·Memᴰ s (statesFrom a n) → (a ≤ s) × (s < a + n)
-unfolding statesFrom
-state-below a zero s m = absurd (List·Memᴰ·not-nil m)
-state-below a (suc n) s m = ⊎-elim (λ e. (omega arith, omega arith)) (λ q. let o = state-below (suc a) n s q in (omega (arith, o .0), omega (arith, o .1))) (List·Memᴰ·cases-cons m)
 
 pub listed-code : (c w : ℕ) (code : List ℕ) → List·Memᴰ code (codesOf c w) → Columns c w code
 unfolding codesOf

@@ -25,6 +25,12 @@ turned-has zero v i h = absurd (omega arith)
 turned-has (suc k) v zero h = low-digit (turned k v) (has v k) (has-lt v k) ∙ ap (has v) (omega arith)
 turned-has (suc k) v (suc i) h = high-digit (turned k v) (has v k) i (has-lt v k) ∙ turned-has k v i (omega arith) ∙ ap (has v) (omega arith)
 
+-- turned twice it is as it was
+pub turned-twice : (k v : ℕ) → v < 2 ^ k → turned k (turned k v) ≡ v
+turned-twice k v h =
+    same-mask k (turned k (turned k v)) v (turned-lt k (turned k v)) h
+    (λ s q. turned-has k (turned k v) s q ∙ turned-has k v (k - 1 - s) (omega arith) ∙ ap (has v) (omega arith))
+
 -- ---- the bit of a column
 
 one-more : (n : ℕ) → 1 ≤ n → suc (n - 1) ≡ n
@@ -52,7 +58,7 @@ column-has n v (suc i) l h =
 
 -- every set of the n states without state 0 is the bit of a column
 pub every-column : (n b : ℕ) → 1 ≤ n → b < 2 ^ n → has b 0 ≡ 0 → (v : ℕ) × (v < columnsOf n) × (column n v ≡ b)
-every-column n b l h z = (turned k (b / 2), turned-lt k (b / 2), ap (λ (m : ℕ). m * 2) back ∙ whole)
+every-column n b l h z = (turned k (b / 2), turned-lt k (b / 2), ap (λ (m : ℕ). m * 2) (turned-twice k (b / 2) half-lt) ∙ whole)
   where
     k : ℕ
     k = n - 1
@@ -62,12 +68,6 @@ every-column n b l h z = (turned k (b / 2), turned-lt k (b / 2), ap (λ (m : ℕ
 
     half-lt : b / 2 < 2 ^ k
     half-lt = halved k (rw (one-more n l) h)
-
-    there : (s : ℕ) → s < k → has (turned k (turned k (b / 2))) s ≡ has (b / 2) s
-    there s q = turned-has k (turned k (b / 2)) s q ∙ turned-has k (b / 2) (k - 1 - s) (omega arith) ∙ ap (has (b / 2)) (omega arith)
-
-    back : turned k (turned k (b / 2)) ≡ b / 2
-    back = same-mask k (turned k (turned k (b / 2))) (b / 2) (turned-lt k (turned k (b / 2))) half-lt there
 
     whole : b / 2 * 2 ≡ b
     whole = omega (arith, sym (has-zero b) ∙ z)

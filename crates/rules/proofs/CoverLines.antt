@@ -57,7 +57,7 @@ cover-ended t bits =
 counted-first : (c v : ℕ) → (c ≡ lf → ⊥) → (rest : List ℕ) → linesOf (countedLine (mark c) v ++ rest) ≡ (mark c ++ decimal v) ∷ linesOf rest
 counted-first c v o rest = lines-first (countedLine (mark c) v) rest (mark c ++ decimal v) refl (marked c v o)
 
-pub rows-first : (f : Row → List ℕ) → ((r : Row) → Without lf (f r)) → (rows : List Row) (ls : List (List ℕ))
+pub rows-first : {A : Type 0} (f : A → List ℕ) → ((r : A) → Without lf (f r)) → (rows : List A) (ls : List (List ℕ))
     → linesOf (joinedLines (map (λ r. f r ++ (lf ∷ [])) rows ++ ls)) ≡ map f rows ++ linesOf (joinedLines ls)
 unfolding joinedLines
 rows-first f h [] ls = refl

@@ -24,7 +24,7 @@ ended-behind none e = e
 ended-behind (more o h) e = then o (ended-behind h e)
 
 -- what stands before its LF
-ended-body : {l : List ℕ} → Ended l → (m : List ℕ) × (l ≡ m ++ (lf ∷ [])) × Without lf m
+pub ended-body : {l : List ℕ} → Ended l → (m : List ℕ) × (l ≡ m ++ (lf ∷ [])) × Without lf m
 ended-body last = ([], refl, none)
 ended-body (then {x} o e) = let b = ended-body e in (x ∷ b .0, ap {B = List ℕ} (λ l. x ∷ l) (b .1), more o (b .2))
 

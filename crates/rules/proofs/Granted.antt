@@ -3,7 +3,7 @@ use mathlib.Core.Path.{_≡_, refl, sym, ap, _∙_}
 use mathlib.Core.Logic.{⊎-elim}
 use mathlib.Core.Bool.{Bool, true, false}
 use mathlib.Core.List.{List, [], _∷_, head-eq-of-cons-eq, tail-eq-of-cons-eq, cons≢nil}
-use mathlib.Core.List.{List·Memᴰ, List·Memᴰ·not-nil, List·Memᴰ·cases-cons, Memᴰ·append-left, Memᴰ·append-right}
+use mathlib.Core.List.{List·Memᴰ, List·Memᴰ·head, List·Memᴰ·tail, List·Memᴰ·not-nil, List·Memᴰ·cases-cons, Memᴰ·append-left, Memᴰ·append-right}
 use Prim.Native.Nat.{ℕ, zero, suc, _<_}
 use native.Mathlib.Decide.{decLt}
 use native.Mathlib.Omega.{arith}
@@ -29,6 +29,12 @@ all-met k n bits (q ∷ rs) e r m = go (metByCode n bits q) refl (all-met (suc k
     go : (t : Bool) → metByCode n bits q ≡ t → (unmetFrom (suc k) n bits rs ≡ [] → AllMet n bits rs) → metByCode n bits r ≡ true
     go true p f = ⊎-elim (λ h. ap (metByCode n bits) h ∙ p) (f (sym (listed-met k n bits q rs p) ∙ e) r) (List·Memᴰ·cases-cons m)
     go false p f = absurd (cons≢nil (sym (listed-unmet k n bits q rs p) ∙ e))
+
+-- and with all met, none is listed
+pub none-unmet : (k n : ℕ) (bits : List ℕ) (rs : List Requirement) → AllMet n bits rs → unmetFrom k n bits rs ≡ []
+unfolding unmetFrom
+none-unmet k n bits [] h = refl
+none-unmet k n bits (r ∷ rs) h = listed-met k n bits r rs (h r (List·Memᴰ·head refl)) ∙ none-unmet (suc k) n bits rs (λ q m. h q (List·Memᴰ·tail m))
 
 -- equal codes have equal digits
 same-digit : (bits : List ℕ) (i k : ℕ) → codeOf bits i ≡ codeOf bits k → (j : ℕ) → j < length bits → has (getD bits j 0) i ≡ has (getD bits j 0) k

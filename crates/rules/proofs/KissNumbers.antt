@@ -44,7 +44,7 @@ module _ {A : Type 0} (p : A → Bool) where
 
 -- ---- numbers
 
-same-self : (f : List ℕ) → same f f ≡ true
+pub same-self : (f : List ℕ) → same f f ≡ true
 unfolding same
 same-self [] = refl
 same-self (x ∷ xs) = rw (eq-eqb x x refl) (same-self xs)

@@ -42,7 +42,7 @@ use Rattle.rules.proofs.FirstPlace.{place-most}
 use Rattle.rules.proofs.SoundLines.{SoundPattern, SoundRow, no-pattern, pattern}
 use Rattle.rules.proofs.Sound.{Sound, none-said}
 use Rattle.rules.proofs.LineNumbers.{AtMost, all-below, or-within, conflict-within, split-length}
-use Rattle.rules.proofs.Ways.{chose-first, chose-second}
+use Rattle.rules.proofs.Ways.{chose-first, chose-second, not-accepted}
 
 -- ---- rows of a draft
 
@@ -536,16 +536,13 @@ record Good (m : ℕ) (r : Reading) : Type 0 where
   apart : r .verdict ≡ Verdict.Accepted → conflict (rowsOf (r .listing)) ≡ Verdict.Accepted
   line : AtMost m (r .verdict)
 
-accepted-not : (f : Refusal) (k : ℕ) → Verdict.Refused f k ≡ Verdict.Accepted → ⊥
-accepted-not f k e = let z : _≡_ {A = ℕ} 0 1 = cc in omega arith
-
 refused-good : (m : ℕ) (f : Refusal) (k : ℕ) → k ≤ m → Good m (refused f k)
 unfolding refused
-refused-good m f k h = record { sound = λ e. absurd (accepted-not f k e); whole = λ e. absurd (accepted-not f k e); apart = λ e. absurd (accepted-not f k e); line = h }
+refused-good m f k h = record { sound = λ e. absurd (not-accepted f k e); whole = λ e. absurd (not-accepted f k e); apart = λ e. absurd (not-accepted f k e); line = h }
 
 or-second : (v w : Verdict) → orElse v w ≡ Verdict.Accepted → w ≡ Verdict.Accepted
 or-second Verdict.Accepted w e = e
-or-second (Verdict.Refused r k) w e = absurd (accepted-not r k e)
+or-second (Verdict.Refused r k) w e = absurd (not-accepted r k e)
 
 judged-good : (m : ℕ) (v : Verdict) (t : Listing) → Sound t → complete (t .head) (t .given) ≡ true → (v ≡ Verdict.Accepted → conflict (rowsOf t) ≡ Verdict.Accepted) → AtMost m v → Good m (judged v t)
 unfolding refused

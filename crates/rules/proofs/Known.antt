@@ -1,4 +1,4 @@
--- P1 to P10 of 01, "Known examples", a sequencer, Table III of 001, and some recorded runs: one table, one test that is computed over all of it, and the law that makes it each case's statement.
+-- P1 to P10 of 01, "Known examples", a sequencer, Table III of 001, and some recorded runs, and some codes and covers that are checked: one table, one test that is computed over all of it, and the law that makes it each case's statement.
 use mathlib.Core.Path.{_≡_, refl, ap₂}
 use mathlib.Core.Bool.{Bool, true, false, _&&_}
 use mathlib.Core.List.{List, [], _∷_, map}
@@ -20,6 +20,7 @@ use Rattle.rules.specs.Answers.{reportReply, coverReply, printed}
 use Rattle.rules.specs.Widths.{widthsReply}
 use Rattle.rules.specs.Least.{leastReply, leastCoverReply}
 use Rattle.rules.specs.Replay.{replayReply}
+use Rattle.rules.specs.Check.{checkReply}
 use Rattle.rules.specs.declared.Head.{Head}
 use Rattle.rules.specs.declared.Requirement.{Requirement}
 use Rattle.rules.specs.declared.HeadLine.{HeadLine}
@@ -67,6 +68,8 @@ pub data Case : Type 0 where
   least-covers : String → String → Case
   -- the replay of a recorded run
   replays : String → String → String → Case
+  -- what checking says of a listing, codes and a cover
+  checks : String → String → String → String → Case
   -- a first line, and the numbers read
   reads : String → Head → Case
   -- some states' codes, a group as in `PT`, and its face; all that the group asks is met
@@ -112,8 +115,16 @@ sequencer = "MO 4 2 3 0\nPT 1- 1000 0100\nPT 0- 1000 1000\nOU 3 0-1\nPT -1 0100 
 table-iii : String
 table-iii = "MC 4 2 1 0\nFT 0 1 0 0\nFT 2 1 1 3\nFT 2 1 0 2\nFT 2 3 1 3\nEN\n"
 
+-- the codes of P1's report
+c1 : String
+c1 = "SC 0 00\nSC 1 10\nSC 2 01\n"
+
+-- one row, at the inputs 10, with a free output
+u1 : String
+u1 = "MC 2 2 2 0\nPT 10 11 10 1-\nEN\n"
+
 pub cases : List Case
-unfolding p1 p1-kept p2 p3 p4 p5 p6 p7 p9 sequencer table-iii
+unfolding c1 u1 p1 p1-kept p2 p3 p4 p5 p6 p7 p9 sequencer table-iii
 cases =
     reports p1 "CT 2 5 0 2 17\nSC 0 00\nSC 1 10\nSC 2 01\nBY 0 0\nBY 1 1\nBY 2 0\nBY 3 1\nBY 4 0\nEN\n"
     ∷ covers p1 ".i 3\n.o 3\n.type fd\n.p 1\n0-0 011\n.e\n"
@@ -160,6 +171,29 @@ cases =
     ∷ replays p1 "SS 3\nIN 0\n" "NO 1 1\n"
     ∷ replays "MC 1 1 2 0\nPT 0 1 1 1-\nEN\n" "SS 0\nIN 0\n" "ST 0 - 1-\n"
     ∷ replays p2 "SS 0\nIN 0\n" "NO 9 0\n"
+    ∷ checks p1 c1 ".i 3\n.o 3\n.type fd\n.p 1\n0-0 011\n.e\n" "OK\n"
+    ∷ checks p1 c1 ".i 3\n.o 3\n.p 2\n000 011\n010 011\n.e\n" "OK\n"
+    ∷ checks p1 c1 ".i 3\n.o 3\n.p 2\n0-0 011\n0-1 1-0\n.e\n" "OK\n"
+    ∷ checks p1 c1 ".i 3\n.o 3\n.p 2\n0-0 011\n0-1 111\n.e\n" "AT 2 0\n"
+    ∷ checks p1 c1 ".i 3\n.o 3\n.p 2\n0-0 011\n000 00-\n.e\n" "AT 0 0\n"
+    ∷ checks p1 c1 ".i 3\n.o 3\n.p 1\n--0 011\n.e\n" "AT 0 1\n"
+    ∷ checks p1 "SC 0 00\nSC 1 10\nSC 2 10\n" ".i 3\n.o 3\n.p 0\n.e\n" "UN 2\n"
+    ∷ checks u1 "SC 0 0\nSC 1 1\n" ".i 3\n.o 3\n.p 1\n10- 01-\n.e\n" "OK\n"
+    ∷ checks u1 "SC 0 0\nSC 1 1\n" ".i 3\n.o 3\n.p 0\n.e\n" "AT 0 2\n"
+    ∷ checks u1 "SC 0 0\nSC 1 1\n" ".i 3\n.o 3\n.p 1\n--- 010\n.e\n" "AT 0 0\n"
+    ∷ checks u1 "SC 0 0\nSC 1 1\n" ".i 3\n.o 3\n.p 2\n10- 010\n111 010\n.e\n" "AT 1 3\n"
+    ∷ checks p3 "SC 0 -\n" ".i 1\n.o 1\n.p 1\n0 1\n.e\n" "OK\n"
+    ∷ checks p1 c1 ".i 4\n.o 3\n.p 1\n0-0- 011\n.e\n" "NO 15 1\n"
+    ∷ checks p1 c1 ".i 3\n.o 4\n.p 0\n.e\n" "NO 15 2\n"
+    ∷ checks p1 c1 ".i 4\n.o 3\n.p 1\n0-0 011\n.e\n" "NO 1 4\n"
+    ∷ checks p1 c1 ".i 3\n.o 3\n.p 2\n0-0 011\n.e\n" "NO 1 5\n"
+    ∷ checks p1 c1 ".i 3\n.o 3\n.p 0\n0-0 011\n.e\n" "NO 1 4\n"
+    ∷ checks p1 c1 ".i 3\n.o 3\n.p 0\n.e\n\n" "NO 1 5\n"
+    ∷ checks p1 "SC 0 00\nSC 1 10\n" "" "NO 1 3\n"
+    ∷ checks p1 "SC 0 00\nSC 1 1\nSC 2 01\n" "" "NO 1 2\n"
+    ∷ checks p1 "SC 0 00\nSC 1 10\nSC 2 01\nEN\n" "" "NO 1 4\n"
+    ∷ checks p1 c1 ".i 4\n.o 3\n.p 0\n.e" "NO 1 4\n"
+    ∷ checks p1 c1 "" "NO 1 1\n"
     ∷ []
 
 -- ---- what a case states
@@ -172,6 +206,7 @@ Holds (gives listing rs) = dichotomiesOf (reading (bytes listing) .listing) ≡ 
 Holds (leasts listing text) = printed (leastReply (bytes listing)) ≡ bytes text
 Holds (least-covers listing text) = printed (leastCoverReply (bytes listing)) ≡ bytes text
 Holds (replays listing run text) = printed (replayReply (bytes listing) (bytes run)) ≡ bytes text
+Holds (checks listing codes cover text) = printed (checkReply (bytes listing) (bytes codes) (bytes cover)) ≡ bytes text
 Holds (reads line head) = headLine (head .moore) (bytes line) ≡ HeadLine.Read head
 Holds (faces codes group text) =
     (face (length codes) (bitsOf codes) (setOf one (bytes group)) ≡ bytes text)
@@ -196,7 +231,7 @@ sameAsked (x ∷ xs) [] = false
 sameAsked (x ∷ xs) (y ∷ ys) = eqb (x .first) (y .first) && eqb (x .second) (y .second) && sameAsked xs ys
 
 right : Case → Bool
-unfolding same reading sameAsked reportReply coverReply widthsReply leastReply leastCoverReply replayReply printed headLine sameHead faceAt allMet groupAsks looksOf metByCode bitsIn setOf
+unfolding same reading sameAsked reportReply coverReply widthsReply leastReply leastCoverReply replayReply checkReply printed headLine sameHead faceAt allMet groupAsks looksOf metByCode bitsIn setOf
 right (reports listing text) = same (printed (reportReply (bytes listing))) (bytes text)
 right (covers listing text) = same (printed (coverReply (bytes listing))) (bytes text)
 right (buys listing text) = same (printed (widthsReply (bytes listing))) (bytes text)
@@ -204,6 +239,7 @@ right (gives listing rs) = sameAsked (dichotomiesOf (reading (bytes listing) .li
 right (leasts listing text) = same (printed (leastReply (bytes listing))) (bytes text)
 right (least-covers listing text) = same (printed (leastCoverReply (bytes listing))) (bytes text)
 right (replays listing run text) = same (printed (replayReply (bytes listing) (bytes run))) (bytes text)
+right (checks listing codes cover text) = same (printed (checkReply (bytes listing) (bytes codes) (bytes cover))) (bytes text)
 right (reads line head) = sameHead (headLine (head .moore) (bytes line)) head
 right (faces codes group text) =
     same (face (length codes) (bitsOf codes) (setOf one (bytes group))) (bytes text)
@@ -276,6 +312,7 @@ right-holds (gives listing rs) e = asked-eq _ _ e
 right-holds (leasts listing text) e = same-eq _ _ e
 right-holds (least-covers listing text) e = same-eq _ _ e
 right-holds (replays listing run text) e = same-eq _ _ e
+right-holds (checks listing codes cover text) e = same-eq _ _ e
 right-holds (reads line head) e = head-eq _ _ e
 right-holds (faces codes group text) e =
     let a : Bool = same (face (length codes) (bitsOf codes) (setOf one (bytes group))) (bytes text) in

@@ -2,8 +2,8 @@
 -- the listing and is never refused 9.
 use mathlib.Core.Path.{_≡_, refl, sym, subst, ap, _∙_}
 use mathlib.Core.Bool.{Bool, true, false, _&&_, cond}
-use mathlib.Core.List.{List, [], _∷_, List·Memᴰ·head, List·Memᴰ·tail, List·Memᴰ·not-nil, Memᴰ·append-left}
-use Prim.Native.Nat.{ℕ, suc}
+use mathlib.Core.List.{List, List·Memᴰ·not-nil, Memᴰ·append-left}
+use Prim.Native.Nat.{ℕ}
 use native.Mathlib.Omega.{arith}
 use lib.Dec.{leb}
 use lib.ListN.{length}
@@ -11,19 +11,17 @@ use Rattle.rules.specs.Limits.{most-bytes}
 use Rattle.rules.specs.Text.{linesOf}
 use Rattle.rules.specs.Listing.{refused, rowsOf, dichotomiesOf, complete, conflict, reading}
 use Rattle.rules.specs.Requirements.{pairsAndGroups, requirements}
-use Rattle.rules.specs.Code.{Code, coded, unmetFrom, unmet}
+use Rattle.rules.specs.Code.{Code, coded, unmet}
 use Rattle.rules.specs.Report.{report}
 use Rattle.rules.specs.Cover.{cover}
 use Rattle.rules.specs.Answers.{says, refuses, reportOf, coverOf}
 use Rattle.rules.specs.Least.{leastCoding, beginsLarge, smallReading, leastReply, leastCoverReply}
-use Rattle.rules.specs.declared.Requirement.{Requirement}
 use Rattle.rules.specs.declared.Listing.{Listing}
 use Rattle.rules.specs.declared.Reading.{Reading}
 use Rattle.rules.specs.declared.Verdict.{Verdict}
 use Rattle.rules.specs.declared.Refusal.the-variants.{Limit, Unmet}
-use Rattle.rules.proofs.Unmet.{listed-met, unmet-listed}
-use Rattle.rules.proofs.Faces.{AllMet}
-use Rattle.rules.proofs.Granted.{all-met}
+use Rattle.rules.proofs.Unmet.{unmet-listed}
+use Rattle.rules.proofs.Granted.{all-met, none-unmet}
 use Rattle.rules.proofs.Ended.{HasLine}
 use Rattle.rules.proofs.Sound.{Sound, accepted-sound, accepted-complete}
 use Rattle.rules.proofs.Sharing.{accepted-apart}
@@ -114,11 +112,6 @@ unfolding leastCoverReply
 least-written s text e = of-written s text (smallReading s .verdict) refl e
 
 -- ---- it is never refused 9
-
-none-unmet : (k n : ℕ) (bits : List ℕ) (rs : List Requirement) → AllMet n bits rs → unmetFrom k n bits rs ≡ []
-unfolding unmetFrom
-none-unmet k n bits [] h = refl
-none-unmet k n bits (r ∷ rs) h = listed-met k n bits r rs (h r (List·Memᴰ·head refl)) ∙ none-unmet (suc k) n bits rs (λ q m. h q (List·Memᴰ·tail m))
 
 pub least-covered : (t : Listing) (c : Code) → leastCoding t ≡ coded c → coverOf t (leastCoding t) ≡ says (cover t (c .bits))
 unfolding coverOf unmet requirements

@@ -70,3 +70,10 @@ pub mod KissNumbers
 pub mod KissNamed
 pub mod KissWritten
 pub mod KissBack
+pub mod Checking
+pub mod DistinctCodes
+pub mod CheckAnswers
+pub mod CodesBack
+pub mod CoverBack
+pub mod CodesReported
+pub mod OwnCovers

@@ -44,6 +44,20 @@ accepted-plain s e m d = record { sound = accepted-sound s e; mealy = m; rows-on
 
 -- ---- the listing of rows alone, as it grows
 
+-- a place more of a table that is filled from its start
+pub filled-on : {A : Type 0} (most : ℕ) (blank : A) (done : List A) (r : A) → length done < most
+    → set (done ++ replicate (most - length done) blank) (length done) r ≡ (done ++ (r ∷ [])) ++ replicate (most - length (done ++ (r ∷ []))) blank
+filled-on most blank done r room =
+    ap (λ (n : ℕ). set (done ++ replicate n blank) (length done) r) before
+    ∙ set-append-seam done blank (replicate left blank) r
+    ∙ sym (append-assoc done (r ∷ []) (replicate left blank))
+  where
+    left : ℕ
+    left = most - length (done ++ (r ∷ []))
+
+    before : most - length done ≡ suc left
+    before = omega (arith, length-append done (r ∷ []))
+
 -- a row more
 grown : (h : Head) (done : List Row) (r : Row) → length done < most-rows → withRow r (rowsAlone h done) ≡ rowsAlone h (done ++ (r ∷ []))
 unfolding rowsAlone
@@ -58,22 +72,7 @@ grown h done r room =
       said = replicate most-states noPattern;
       given = 0;
     })
-    (sym count) table
-  where
-    count : length (done ++ (r ∷ [])) ≡ length done + 1
-    count = length-append done (r ∷ [])
-
-    left : ℕ
-    left = most-rows - length (done ++ (r ∷ []))
-
-    before : most-rows - length done ≡ suc left
-    before = omega (arith, count)
-
-    table : set (done ++ replicate (most-rows - length done) noRow) (length done) r ≡ (done ++ (r ∷ [])) ++ replicate left noRow
-    table =
-        ap (λ (n : ℕ). set (done ++ replicate n noRow) (length done) r) before
-        ∙ set-append-seam done noRow (replicate left noRow) r
-        ∙ sym (append-assoc done (r ∷ []) (replicate left noRow))
+    (sym (length-append done (r ∷ []))) (filled-on most-rows noRow done r room)
 
 pub rows-alone : (h : Head) (rs : List Row) → rowsOf (rowsAlone h rs) ≡ rs
 unfolding rowsAlone

@@ -4,7 +4,7 @@ use mathlib.Core.Path.{_≡_}
 use mathlib.Core.Logic.{_↔_}
 use mathlib.Core.Bool.{Bool}
 use mathlib.Core.List.{List, [], _∷_, List·Memᴰ}
-use Prim.Native.Nat.{ℕ, suc, _+_}
+use Prim.Native.Nat.{ℕ, suc, _+_, _<_}
 use native.Mathlib.Omega.{arith}
 use lib.ListN.{length}
 use Rattle.sets.specs.Sets.{statesFrom}
@@ -27,10 +27,14 @@ use Rattle.rules.specs.declared.Judgement.the-variants.{By, ByNone}
 use Rattle.rules.proofs.Fields.{Without, none, more, without-map}
 use Rattle.rules.proofs.Ended.{Ended, last, then, ended-behind, AllEnded, no-line, line, ended-append, ended-map, HasLine, of-text, in-text, digits-ended, space-then, mark-then}
 
-pub code-without : (ds : List ℕ) → Without lf (codeText ds)
+-- characters of a code come behind the space and LF
+pub code-high : (q : ℕ) → q < dash → (ds : List ℕ) → Without q (codeText ds)
 unfolding codeText
-code-without [] = more {x = dash} (λ e. omega arith) none
-code-without (d ∷ ds) = without-map lf (λ x. nought + x) (d ∷ ds) (λ x e. omega arith)
+code-high q h [] = more {x = dash} (λ e. omega arith) none
+code-high q h (d ∷ ds) = without-map q (λ x. nought + x) (d ∷ ds) (λ x e. omega arith)
+
+pub code-without : (ds : List ℕ) → Without lf (codeText ds)
+code-without ds = code-high lf (omega arith) ds
 
 pub count-ended : (bits asked unmet passes looks : ℕ) → Ended (countLine bits asked unmet passes looks)
 unfolding countLine

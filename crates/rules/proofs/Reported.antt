@@ -60,11 +60,14 @@ pub record Reported (r : Reading) (text : List ℕ) : Type 0 where
 
 -- ---- a line says which requirement, and which bit
 
-by-fields : (r k : ℕ) → fieldsOf (byText r k) ≡ bytes "BY" ∷ (decimal r ∷ ((decimal k ++ (lf ∷ [])) ∷ []))
-unfolding metLine
-by-fields r k =
-    split-part space (bytes "BY") (decimal r ++ (space ∷ (decimal k ++ (lf ∷ [])))) (more {x = 66} (λ e. omega arith) (more {x = 89} (λ e. omega arith) none))
-    ∙ ap {B = List (List ℕ)} (λ ls. bytes "BY" ∷ ls)
+-- two letters, and two numbers
+abbrev pub twoNumbers : ℕ → ℕ → ℕ → ℕ → List ℕ
+twoNumbers a b r k = a ∷ (b ∷ (space ∷ (decimal r ++ (space ∷ (decimal k ++ (lf ∷ []))))))
+
+number-fields : (a b r k : ℕ) → space < a → space < b → fieldsOf (twoNumbers a b r k) ≡ (a ∷ (b ∷ [])) ∷ (decimal r ∷ ((decimal k ++ (lf ∷ [])) ∷ []))
+number-fields a b r k h q =
+    split-part space (a ∷ (b ∷ [])) (decimal r ++ (space ∷ (decimal k ++ (lf ∷ [])))) (more {x = a} (λ e. omega arith) (more {x = b} (λ e. omega arith) none))
+    ∙ ap {B = List (List ℕ)} (λ ls. (a ∷ (b ∷ [])) ∷ ls)
     (split-part space (decimal r) (decimal k ++ (lf ∷ [])) (decimal-without space (omega arith) r)
     ∙ ap {B = List (List ℕ)} (λ ls. decimal r ∷ ls)
     (split-last space (decimal k ++ (lf ∷ [])) (without-append (decimal-without space (omega arith) k) (more {x = lf} (λ e. omega arith) none))))
@@ -83,12 +86,16 @@ before-end v = ap (λ (ls : List (List ℕ)). getD ls 0 []) (split-part lf (deci
 ended-same : (a b : ℕ) → decimal a ++ (lf ∷ []) ≡ decimal b ++ (lf ∷ []) → a ≡ b
 ended-same a b e = decimal-same a b (sym (before-end a) ∙ ap (λ (l : List ℕ). getD (linesOf l) 0 []) e ∙ before-end b)
 
-by-same : (r k q j : ℕ) → byText r k ≡ byText q j → (r ≡ q) × (k ≡ j)
-by-same r k q j e =
-    let fields = sym (by-fields r k) ∙ ap (λ (l : List ℕ). fieldsOf l) e ∙ by-fields q j in
+pub numbers-same : (a b : ℕ) → space < a → space < b → (r k q j : ℕ) → twoNumbers a b r k ≡ twoNumbers a b q j → (r ≡ q) × (k ≡ j)
+numbers-same a b l m r k q j e =
+    let fields = sym (number-fields a b r k l m) ∙ ap (λ (l : List ℕ). fieldsOf l) e ∙ number-fields a b q j l m in
     (decimal-same r q (ap (λ (fs : List (List ℕ)). getD fs 1 []) fields), ended-same k j (ap (λ (fs : List (List ℕ)). getD fs 2 []) fields))
 
-un-same : (r q : ℕ) → unText r ≡ unText q → r ≡ q
+by-same : (r k q j : ℕ) → byText r k ≡ byText q j → (r ≡ q) × (k ≡ j)
+unfolding metLine
+by-same r k q j e = numbers-same 66 89 (omega arith) (omega arith) r k q j e
+
+pub un-same : (r q : ℕ) → unText r ≡ unText q → r ≡ q
 un-same r q e = ended-same r q (ap (λ (fs : List (List ℕ)). getD fs 1 []) (sym (un-fields r) ∙ ap (λ (l : List ℕ). fieldsOf l) e ∙ un-fields q))
 
 -- ---- the first letter tells the kinds of lines apart

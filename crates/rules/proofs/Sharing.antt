@@ -22,6 +22,7 @@ use Rattle.rules.specs.declared.Reading.{Reading}
 use Rattle.rules.specs.declared.Verdict.{Verdict}
 use Rattle.rules.specs.declared.Refusal.{Refusal}
 use Rattle.rules.specs.declared.Refusal.the-variants.{Conflict, Limit}
+use Rattle.rules.proofs.Ways.{not-accepted}
 use Rattle.rules.proofs.SoundLines.{FitRow}
 
 module _ (h : Head) (few : h .inputs ≤ most-inputs) (a b : Row) (sa : FitRow h a) (sb : FitRow h b) (x s : ℕ) (fa : fires h a x s ≡ true) (fb : fires h b x s ≡ true) where
@@ -66,9 +67,6 @@ module _ (h : Head) (few : h .inputs ≤ most-inputs) (a b : Row) (sa : FitRow h
       (ap not (ne-eqb (bitAnd (a .group) (b .group)) 0 state-shared))
 
 -- ---- of an accepted listing
-
-not-accepted : (r : Refusal) (k : ℕ) → Verdict.Refused r k ≡ Verdict.Accepted → ⊥
-not-accepted r k e = let z : _≡_ {A = ℕ} 0 1 = ap (λ (v : Verdict). elim v [ Verdict.Accepted ↦ 1 | Verdict.Refused r k ↦ 0 ]) e in omega arith
 
 apart-one : (a : Row) (rs : List Row) → clashWith a rs ≡ Verdict.Accepted → (k : ℕ) → k < length rs → clash a (getD rs k noRow) ≡ false
 unfolding clashWith

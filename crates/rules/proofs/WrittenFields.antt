@@ -33,18 +33,18 @@ set-read c f a (suc n) m h e =
     shifted : (j : ℕ) → digit (eqb (f (suc a + j)) c) ≡ digit (eqb (f (a + suc j)) c)
     shifted j = let z : suc a + j ≡ a + suc j = omega arith in ap (λ (k : ℕ). digit (eqb (f k) c)) z
 
-all-of : (a b c : ℕ) (f : ℕ → ℕ) (l : List ℕ) → ((j : ℕ) → (eqb (f j) a || (eqb (f j) b || eqb (f j) c)) ≡ true) → allOf a b c (map f l) ≡ true
+pub all-of : (a b c : ℕ) (f : ℕ → ℕ) (l : List ℕ) → ((j : ℕ) → (eqb (f j) a || (eqb (f j) b || eqb (f j) c)) ≡ true) → allOf a b c (map f l) ≡ true
 unfolding allOf
 all-of a b c f [] h = refl
 all-of a b c f (x ∷ xs) h = and-both (eqb (f x) a || (eqb (f x) b || eqb (f x) c)) (allOf a b c (map f xs)) (h x) (all-of a b c f xs h)
 
-fits : (most k a b c : ℕ) (l : List ℕ) → k ≤ most → length l ≡ k → allOf a b c l ≡ true → sized most k a b c l ≡ true
+pub fits : (most k a b c : ℕ) (l : List ℕ) → k ≤ most → length l ≡ k → allOf a b c l ≡ true → sized most k a b c l ≡ true
 unfolding sized
 fits most k a b c l h e q = rw (le-leb (length l) most (omega arith), eq-eqb (length l) k e) q
 
 -- ---- a digit as a character
 
-digit-one : (d : ℕ) → d < 2 → digit (eqb (nought + d) one) ≡ d
+pub digit-one : (d : ℕ) → d < 2 → digit (eqb (nought + d) one) ≡ d
 digit-one zero h = refl
 digit-one (suc zero) h = refl
 digit-one (suc (suc d)) h = absurd (omega arith)
@@ -52,7 +52,7 @@ digit-one (suc (suc d)) h = absurd (omega arith)
 digit-dash : (d : ℕ) → digit (eqb (nought + d) dash) ≡ 0
 digit-dash d = ap digit (ne-eqb (nought + d) dash (λ e. omega arith))
 
-is-digit : (c d : ℕ) → d < 2 → (eqb (nought + d) nought || (eqb (nought + d) one || eqb (nought + d) c)) ≡ true
+pub is-digit : (c d : ℕ) → d < 2 → (eqb (nought + d) nought || (eqb (nought + d) one || eqb (nought + d) c)) ≡ true
 is-digit c zero h = refl
 is-digit c (suc zero) h = refl
 is-digit c (suc (suc d)) h = absurd (omega arith)
@@ -122,7 +122,7 @@ mark-high p j = go (eqb (has (p .dashes) j) 1)
     go true = omega arith
     go false = omega arith
 
-mark-allowed : (p : Pattern) (j : ℕ) → (eqb (patternMark p j) nought || (eqb (patternMark p j) one || eqb (patternMark p j) dash)) ≡ true
+pub mark-allowed : (p : Pattern) (j : ℕ) → (eqb (patternMark p j) nought || (eqb (patternMark p j) one || eqb (patternMark p j) dash)) ≡ true
 mark-allowed p j = go (eqb (has (p .dashes) j) 1)
   where
     go : (t : Bool) → let x = cond t dash (nought + has (p .ones) j) in (eqb x nought || (eqb x one || eqb x dash)) ≡ true

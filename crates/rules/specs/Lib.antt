@@ -23,4 +23,6 @@ pub mod KissAnswers
 pub mod Parts
 pub mod Widths
 pub mod Replay
+pub mod CheckTexts
+pub mod Check
 pub mod Trial

@@ -56,3 +56,7 @@ most-name = 31
 -- the steps of a run that is replayed (02, request 08)
 abbrev pub most-steps : ℕ
 most-steps = 10000
+
+-- the rows of a cover that is checked (02, request 10)
+abbrev pub most-checked : ℕ
+most-checked = 256

@@ -45,6 +45,9 @@ pub const MOST_NAME: usize = 31;
 // The steps of a run that is replayed.
 pub const MOST_STEPS: usize = 10000;
 
+// The rows of a cover that is checked.
+pub const MOST_CHECKED: usize = 256;
+
 // A state's number, from 0. Moves and gains take it, a C host's too.
 #[repr(C)]
 pub struct StateNumber(pub usize);
@@ -132,6 +135,7 @@ pub enum Refusal {
     Names,
     Unstable,
     NoNext,
+    Misfit,
     NoShortCode,
     NoOutputs,
 }
@@ -155,6 +159,7 @@ impl Refusal {
             Refusal::Names => 12,
             Refusal::Unstable => 13,
             Refusal::NoNext => 14,
+            Refusal::Misfit => 15,
             Refusal::NoShortCode => 16,
             Refusal::NoOutputs => 17,
         }
@@ -271,4 +276,47 @@ pub struct Encoding {
     pub unmet: usize,
     pub passes: u64,
     pub looks: u64,
+}
+
+// What `SC` lines say: how many bits the codes have, and the code of state s at place s, bit k its digit k.
+pub struct CodeTable {
+    pub width: usize,
+    pub table: [u64; MOST_STATES],
+}
+
+// What the reader of `SC` lines answers; where it is refused there are no bits.
+pub struct CodesReading {
+    pub verdict: Verdict,
+    pub codes: CodeTable,
+}
+
+// The line that comes next in a cover.
+pub enum CoverPart {
+    Inputs,
+    Outputs,
+    Kind,
+    Products,
+    Rows,
+    Over,
+}
+
+// What the lines of a cover say so far: the line that comes next, the numbers of `.i`, `.o` and `.p`, and how many rows there were.
+pub struct CoverHeads {
+    pub part: CoverPart,
+    pub inputs: usize,
+    pub outputs: usize,
+    pub products: usize,
+    pub rows: usize,
+}
+
+// What one line of a cover does: it goes on, or is refused.
+pub enum CoverLine {
+    Read(CoverHeads),
+    Refused(Refusal),
+}
+
+// Where a cover does not agree with its listing: the lowest state, and for it the lowest input, the leftmost the highest digit.
+pub enum Fault {
+    At(StateNumber, usize),
+    Nowhere,
 }

@@ -1,4 +1,4 @@
--- Who is a member of a union, a difference, a flip, a complement; and masks with the same members are equal. Over any width.
+-- Who is a member of a union, a difference, a flip, a complement; and masks with the same members are equal, over any width and without one.
 use mathlib.Core.Path.{_≡_, refl, sym, ap, _∙_, subst}
 use Prim.Native.Nat.{ℕ, zero, suc, _+_, _-_, _*_, _/_, _%_, _^_, _≤_, _<_, min, max}
 use native.Mathlib.Nat.{mod-lt, zero-lt-suc, pow-suc, div-div-eq-div-mul, div-lt-iff-lt-mul, div-one, div-self, div-eq-of-lt, zero-div, one-mul, mod-eq-of-lt, mul-comm, lt-of-lt-of-le}
@@ -59,6 +59,17 @@ same-mask (suc n) a b p q h =
     let e : a / 2 ≡ b / 2 = same-mask n (a / 2) (b / 2) (half-lt n p) (half-lt n q) (λ s r. sym (has-suc a s) ∙ h (suc s) (omega arith) ∙ has-suc b s) in
     let z : a % 2 ≡ b % 2 = sym (has-zero a) ∙ h 0 (omega arith) ∙ has-zero b in
     omega arith
+
+-- of any width
+pub below-power : (m : ℕ) → m < 2 ^ m
+below-power zero = omega arith
+below-power (suc m) = omega (arith, below-power m, pow-suc 2 m)
+
+pub same-digits : (a b : ℕ) → ((j : ℕ) → has a j ≡ has b j) → a ≡ b
+same-digits a b h =
+    let left : 2 ^ a ≤ 2 ^ (a + b) = pow-mono (omega arith) in
+    let right : 2 ^ b ≤ 2 ^ (a + b) = pow-mono (omega arith) in
+    same-mask (a + b) a b (omega (arith, below-power a)) (omega (arith, below-power b)) (λ j l. h j)
 
 pub has-none : (t : ℕ) → has 0 t ≡ 0
 has-none t = ap (λ (n : ℕ). n % 2) (zero-div (2 ^ t))

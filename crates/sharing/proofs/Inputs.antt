@@ -69,13 +69,13 @@ one-way d e o p hd he ho hp =
     o ho)
     p hp)
 
--- digit s of the machine's mask
-unlike : (d e o p s : ℕ) → d < 2 ^ 32 → e < 2 ^ 32 → s < 32
-    → eqb (has (bitAnd (bitXor o p) ((2 ^ 32 - 1) - bitOr d e)) s) 0 ≡ (eqb (has d s) 1 || (eqb (has e s) 1 || eqb (has o s) (has p s)))
-unlike d e o p s hd he hs =
-    let a : has (bitAnd (bitXor o p) ((2 ^ 32 - 1) - bitOr d e)) s ≡ min (has (bitXor o p) s) (has ((2 ^ 32 - 1) - bitOr d e) s)
-    = has-and (bitXor o p) ((2 ^ 32 - 1) - bitOr d e) s in
-    let b : has ((2 ^ 32 - 1) - bitOr d e) s ≡ 1 - has (bitOr d e) s = has-not 32 (bitOr d e) s (or-lt 32 d e hd he) hs in
+-- digit s of the machine's mask, at any width of its words
+pub unlike : (w d e o p s : ℕ) → d < 2 ^ w → e < 2 ^ w → s < w
+    → eqb (has (bitAnd (bitXor o p) ((2 ^ w - 1) - bitOr d e)) s) 0 ≡ (eqb (has d s) 1 || (eqb (has e s) 1 || eqb (has o s) (has p s)))
+unlike w d e o p s hd he hs =
+    let a : has (bitAnd (bitXor o p) ((2 ^ w - 1) - bitOr d e)) s ≡ min (has (bitXor o p) s) (has ((2 ^ w - 1) - bitOr d e) s)
+    = has-and (bitXor o p) ((2 ^ w - 1) - bitOr d e) s in
+    let b : has ((2 ^ w - 1) - bitOr d e) s ≡ 1 - has (bitOr d e) s = has-not w (bitOr d e) s (or-lt w d e hd he) hs in
     rw (a, b, has-xor o p s, has-or d e s) (one-way (has d s) (has e s) (has o s) (has p s) (has-lt d s) (has-lt e s) (has-lt o s) (has-lt p s))
 
 -- ---- all inputs
@@ -85,4 +85,4 @@ pub share-mask : (a b : Row) → a .input .dashes < 2 ^ 32 → b .input .dashes 
 unfolding shareInput
 share-mask a b ha hb =
     none-low most-inputs (bitAnd (bitXor (a .input .ones) (b .input .ones)) ((2 ^ 32 - 1) - bitOr (a .input .dashes) (b .input .dashes)))
-    ∙ every-same most-inputs _ _ (λ s h. unlike (a .input .dashes) (b .input .dashes) (a .input .ones) (b .input .ones) s ha hb (omega arith))
+    ∙ every-same most-inputs _ _ (λ s h. unlike 32 (a .input .dashes) (b .input .dashes) (a .input .ones) (b .input .ones) s ha hb (omega arith))

@@ -20,6 +20,7 @@ use Rattle.host_replies.specs.declared.Said.{Said}
 use Rattle.host_replies.specs.Saying.{saying, sayingPart}
 use Rattle.host_replies.proofs.Replies.{Small}
 use Rattle.host_replay.proofs.Replies.{SmallRun}
+use Rattle.host_check.proofs.Room.{Room}
 use Rattle.tsurmokan.specs.Signed.{signed, Within}
 
 -- a number of 64 bits, read back as it was
@@ -57,7 +58,7 @@ abbrev pub Short : Reply → Type 0
 Short (says text) = length text < 9223372036854775808
 Short (refuses r line) = line < 100000
 
--- every reply to a listing alone, and every replay
+-- every reply to a listing alone, every replay, and every check
 pub small-short : (x : Reply) → Small x → Short x
 small-short (says text) h = omega arith
 small-short (refuses r line) h = h
@@ -65,6 +66,10 @@ small-short (refuses r line) h = h
 pub run-short : (x : Reply) → SmallRun x → Short x
 run-short (says text) h = omega arith
 run-short (refuses r line) h = h
+
+pub check-short : (x : Reply) → Room x → Short x
+check-short (says text) h = omega arith
+check-short (refuses r line) h = h
 
 -- ---- what was said is the answer, and small enough for its number
 

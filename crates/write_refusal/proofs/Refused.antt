@@ -28,6 +28,7 @@ number-few Refusal.BadCall = omega arith
 number-few Refusal.Names = omega arith
 number-few Refusal.Unstable = omega arith
 number-few Refusal.NoNext = omega arith
+number-few Refusal.Misfit = omega arith
 number-few Refusal.NoShortCode = omega arith
 number-few Refusal.NoOutputs = omega arith
 

@@ -1,0 +1,11 @@
+pub mod Words
+pub mod Halves
+pub mod Columns
+pub mod Plain
+pub mod States
+pub mod Sure
+pub mod Gathered
+pub mod Judged
+pub mod Firing
+pub mod Backed
+pub mod RowByRow
