@@ -4,7 +4,7 @@ ghost use Rattle.rules.specs.OneBit.{complemented};
 ghost use Rattle.bit_choice.specs.Pass.{highest, reached, best_of};
 
 // What a pass keeps: the bit, its level (that of a gain of 0 where nothing was gained), and the looks of all its moves.
-#[derive(Drop)]
+#[derive(Clone, Copy)]
 pub struct Passed {
     pub bit: u64,
     pub level: u32,
@@ -12,7 +12,7 @@ pub struct Passed {
 }
 
 // A pass on its way, beside its table: the bit, who is free, the level reached, and the best so far.
-#[derive(Drop)]
+#[derive(Clone, Copy)]
 pub struct Way {
     pub bit: u64,
     pub free: u64,
@@ -21,7 +21,7 @@ pub struct Way {
 }
 
 // A bit that is done, the passes begun for it, and their looks.
-#[derive(Drop)]
+#[derive(Clone, Copy)]
 pub struct Built {
     pub bit: u64,
     pub passes: u64,

@@ -2,7 +2,7 @@
 ghost use Rattle.bit_next.specs.NextBit.{AddedBit};
 
 // What a new bit is, how many words the families take that it leaves live, and what building it took.
-#[derive(Drop)]
+#[derive(Clone, Copy)]
 pub struct Added {
     pub bit: u64,
     pub left: usize,

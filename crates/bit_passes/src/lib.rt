@@ -7,7 +7,7 @@ ghost use Rattle.bit_passes.specs.Runs.{Ran};
 use bit_choice::{Built, Passed, Way, best_of, choose, reach};
 
 // Passes on their way: the bit so far, the passes begun for it, their looks, and whether the last of them gained nothing.
-#[derive(Drop)]
+#[derive(Clone, Copy)]
 pub struct Run {
     pub bit: u64,
     pub passes: u64,

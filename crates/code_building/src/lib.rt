@@ -5,7 +5,7 @@ ghost use Rattle.code_encoding.specs.Encode.{encoded};
 ghost use Rattle.code_building.specs.Build.{Begun, Asked, Done, encoded_for};
 
 // What a run of bits came to: how many there are, how many requirements they leave live, and what building them took.
-#[derive(Drop)]
+#[derive(Clone, Copy)]
 struct Coded {
     width: usize,
     live: usize,

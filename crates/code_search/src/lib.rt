@@ -4,7 +4,7 @@ ghost use Rattle.rules.specs.Least.{codes_up_to, first_with};
 ghost use Rattle.code_search.specs.Search.{takes_all, searched, told, told_width};
 
 // The width of a code that was found, or that there is none.
-#[derive(Drop)]
+#[derive(Clone, Copy)]
 pub enum Found {
     Width(usize),
     Nothing,

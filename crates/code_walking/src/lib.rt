@@ -4,7 +4,7 @@ ghost use Rattle.code_walking.specs.Walking.{entered, here, next};
 
 // Where a walk stands: at the family whose first word has this place, before those of its states outside that are still to come. A family that has no
 // state outside is one requirement.
-#[derive(Drop)]
+#[derive(Clone, Copy)]
 pub struct Walk {
     pub at: usize,
     pub rest: u64,

@@ -1,4 +1,9 @@
 // Prints the cover of the listing on standard input, or `NO number line`.
-fn main() {
-    host_programs::run(host_replies::plans::Wanted::Cover)
+#![tactic(auto)]
+
+use host_replies::plans::Wanted;
+use std::io;
+
+fn main(rt: HostRuntime) -> io::Result<()> {
+    host_programs::run(Wanted::Cover, &mut rt.reader(), &mut io::writer(&rt))
 }

@@ -16,7 +16,7 @@ use run_replay::{Machines, Place};
 pub const ROOM: usize = 1040012;
 
 // What a piece of a run prints: how many bytes, and the place that the run has come to.
-#[derive(Drop)]
+#[derive(Clone, Copy)]
 pub struct Printed {
     pub given: usize,
     pub place: Place,

@@ -21,14 +21,14 @@ use write_texts::Text;
 pub const ROOM: usize = 124799;
 
 // A text of that many bytes, or a refusal and its line.
-#[derive(Drop)]
+#[derive(Clone, Copy)]
 pub enum Said {
     Text(usize),
     Refused(rules::Refusal, usize),
 }
 
 // A listing with its code, from which a text can be written, whole or in parts, as often as one likes; or why it is refused.
-#[derive(Drop)]
+#[derive(Clone, Copy)]
 pub struct Ready {
     pub text: Text,
     pub verdict: Verdict,

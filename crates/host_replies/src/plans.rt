@@ -5,7 +5,7 @@ ghost use Rattle.host_replies.specs.Plans.{plan_of, is_kiss, is_small, width_for
 use write_texts::Text;
 
 // What is asked for.
-#[derive(Drop)]
+#[derive(Clone, Copy)]
 pub enum Wanted {
     Report,
     Cover,
@@ -18,7 +18,7 @@ pub enum Wanted {
 }
 
 // A listing, the listing of a small machine, or a KISS2 text.
-#[derive(Drop)]
+#[derive(Clone, Copy)]
 pub enum Form {
     Listing,
     Small,
@@ -26,7 +26,7 @@ pub enum Form {
 }
 
 // By the bit rule, in the fewest bits, or not at all.
-#[derive(Drop)]
+#[derive(Clone, Copy)]
 pub enum Way {
     Built,
     Least,
@@ -34,7 +34,7 @@ pub enum Way {
 }
 
 // How what is wanted is come by.
-#[derive(Drop)]
+#[derive(Clone, Copy)]
 pub struct Plan(pub Form, pub Way, pub Text);
 
 // One line for each.

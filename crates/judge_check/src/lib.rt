@@ -9,7 +9,7 @@ use judge_unmet::Unmet;
 use rules::{CodeTable, Fault, Head, Listing, Reading, Refusal, RequirementNumber, Verdict};
 
 // What checking finds: a text that is refused at a line, the first pair or group requirement that is unmet, or where the cover does not agree, if anywhere.
-#[derive(Drop)]
+#[derive(Clone, Copy)]
 pub enum Checked {
     Refused(Refusal, usize),
     Unmet(RequirementNumber),
@@ -17,7 +17,7 @@ pub enum Checked {
 }
 
 // A listing and its codes, or which of them is refused and why.
-#[derive(Drop)]
+#[derive(Clone, Copy)]
 pub struct Begun {
     pub verdict: Verdict,
     pub listing: Listing,

@@ -10,7 +10,7 @@ use read_pieces::{cut, field};
 use rules::{CodeTable, CodesReading, Numeral, Refusal, Verdict};
 
 // What a line says of the code of its state, bit k its digit k.
-#[derive(Drop)]
+#[derive(Clone, Copy)]
 pub enum Code {
     Is(u64),
     Bad,

@@ -14,7 +14,7 @@ use rules::{CodeTable, CoverHeads, CoverLine, CoverPart, Refusal, Verdict};
 const MOST_COVER_LINES: usize = 261;
 
 // What a cover is read for: so many inputs of the listing; the inputs and the outputs that the cover has to have; the codes of so many states.
-#[derive(Drop)]
+#[derive(Clone, Copy)]
 pub struct Reader {
     pub inputs: usize,
     pub taken: usize,
@@ -24,14 +24,14 @@ pub struct Reader {
 }
 
 // A place in a cover: the number of the line to come and what the lines before it said, or why and where one was refused.
-#[derive(Drop)]
+#[derive(Clone, Copy)]
 pub enum Reached {
     Line(usize, CoverHeads),
     Refused(Refusal, usize),
 }
 
 // What the whole lines of a piece come to, and how many of its bytes they are.
-#[derive(Drop)]
+#[derive(Clone, Copy)]
 pub struct Piece {
     pub reached: Reached,
     pub taken: usize,

@@ -11,7 +11,7 @@ use read_pieces::{field, first_of};
 use rules::{CodeTable, Listing, Row};
 
 // Where a row fires: the inputs that are 1 and those that are dashes, and the states.
-#[derive(Drop)]
+#[derive(Clone, Copy)]
 pub struct Firing {
     pub ones: u64,
     pub dashes: u64,
@@ -19,7 +19,7 @@ pub struct Firing {
 }
 
 // Characters `0 1 -`, at most 64 of them: those that are 1, and the dashes.
-#[derive(Drop)]
+#[derive(Clone, Copy)]
 struct Marks {
     ones: u64,
     dashes: u64,

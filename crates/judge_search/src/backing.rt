@@ -8,7 +8,7 @@ ghost use Rattle.judge_search.specs.Backing.{within, of_listing, of_cover, backe
 use super::{ALL_ROWS, FIRES_WORDS, LISTING_ROWS, SAYS_WORDS};
 
 // One of the four numbers of what each of some rows says.
-#[derive(Drop)]
+#[derive(Clone, Copy)]
 pub struct Sayings {
     pub number: usize,
     pub from: usize,

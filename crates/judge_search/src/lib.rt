@@ -32,7 +32,7 @@ pub const COLUMN_WORDS: usize = 224;
 // What a row says, or some rows together.
 // - Of a listing: the states named next, the code of the state named, the outputs that are 1, and those that are dashes.
 // - Of a cover: the bits of the next code that are 1, and those that are dashes, and the same of the outputs.
-#[derive(Drop)]
+#[derive(Clone, Copy)]
 pub struct Said {
     pub a: u64,
     pub b: u64,
@@ -41,7 +41,7 @@ pub struct Said {
 }
 
 // The lowest input that was looked for, or that there is none.
-#[derive(Drop)]
+#[derive(Clone, Copy)]
 pub enum Found {
     At(usize),
     Nothing,

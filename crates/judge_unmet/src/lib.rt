@@ -9,7 +9,7 @@ ghost use Rattle.judge_unmet.specs.First.{first_of};
 use rules::{Listing, RequirementNumber};
 
 // The number of the first requirement that is unmet, or that each is met.
-#[derive(Drop)]
+#[derive(Clone, Copy)]
 pub enum Unmet {
     At(RequirementNumber),
     Nothing,

@@ -1,4 +1,9 @@
 // Prints the cover of the KISS2 text on standard input, or `NO number line`.
-fn main() {
-    host_programs::run(host_replies::plans::Wanted::KissCover)
+#![tactic(auto)]
+
+use host_replies::plans::Wanted;
+use std::io;
+
+fn main(rt: HostRuntime) -> io::Result<()> {
+    host_programs::run(Wanted::KissCover, &mut rt.reader(), &mut io::writer(&rt))
 }

@@ -1,4 +1,9 @@
 // Prints the listing that the KISS2 text on standard input becomes, or `NO number line`.
-fn main() {
-    host_programs::run(host_replies::plans::Wanted::KissListing)
+#![tactic(auto)]
+
+use host_replies::plans::Wanted;
+use std::io;
+
+fn main(rt: HostRuntime) -> io::Result<()> {
+    host_programs::run(Wanted::KissListing, &mut rt.reader(), &mut io::writer(&rt))
 }

@@ -1,4 +1,8 @@
 // Prints the names of the states of the KISS2 text on standard input, or `NO number line`.
-fn main() {
-    host_programs::run_names()
+#![tactic(auto)]
+
+use std::io;
+
+fn main(rt: HostRuntime) -> io::Result<()> {
+    host_programs::run_names(&mut rt.reader(), &mut io::writer(&rt))
 }

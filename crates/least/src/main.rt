@@ -1,4 +1,9 @@
 // Prints the report of the least code of the small machine on standard input, or `NO number line`.
-fn main() {
-    host_programs::run(host_replies::plans::Wanted::Least)
+#![tactic(auto)]
+
+use host_replies::plans::Wanted;
+use std::io;
+
+fn main(rt: HostRuntime) -> io::Result<()> {
+    host_programs::run(Wanted::Least, &mut rt.reader(), &mut io::writer(&rt))
 }

@@ -1,5 +1,5 @@
 -- A table raised at the members of a set, one member at a time.
-use mathlib.Core.Path.{◌≡◌, refl, ap, ap₂, subst}
+use mathlib.Core.Path.{◌≡◌, refl, ap, ap₂, subst, sym}
 use mathlib.Core.Bool.{Bool, true, false, cond}
 use mathlib.Core.List.{List, [], ◌∷◌}
 use Prim.Native.Nat.{ℕ, zero, suc, ◌+◌, ◌%◌, ◌^◌, ◌≤◌, ◌<◌}
@@ -40,12 +40,12 @@ raised-from by m (v ∷ vs) j zero p h =
     let x : eqb (has (flip m j) j) 1 ≡ false = ne_eqb (has (flip m j) j) 1 (λ d. omega (arith, has-flip m j)) in
     let y : eqb (has m j) 1 ≡ true = eq-eqb (has m j) 1 g in
     let w : raised by (flip m j) (suc j) vs ≡ raised by m (suc j) vs = raised-same by (flip m j) m (suc j) vs (λ i q _. has-flip-other m j i (λ d. omega arith)) in
-    rw (e, x, y, w)
+    subst (λ (i : ℕ). raised by (flip m i) j (set (v ∷ vs) 0 ((v + by) % 2 ^ 32)) ≡ raised by m j (v ∷ vs)) (sym e) (rw (x, y, w))
 raised-from by m (v ∷ vs) j (suc k) p h =
     let e : j + suc k ≡ suc j + k = omega arith in
     let x : has (flip m (suc j + k)) j ≡ has m j = has-flip-other m (suc j + k) j (λ d. omega arith) in
     let g : has m (suc j + k) ≡ 1 = subst (λ (i : ℕ). has m i ≡ 1) e h in
-    rw (e, x, raised-from by m vs (suc j) k (omega arith) g)
+    subst (λ (i : ℕ). raised by (flip m i) j (set (v ∷ vs) (suc k) ((get_or (v ∷ vs) (suc k) 0 + by) % 2 ^ 32)) ≡ raised by m j (v ∷ vs)) (sym e) (rw (x, raised-from by m vs (suc j) k (omega arith) g))
 
 raised-in : (by m k : ℕ) (t : List ℕ) → k < length t → has m k ≡ 1 → raised by (flip m k) 0 (set t k ((get_or t k 0 + by) % 2 ^ 32)) ≡ raised by m 0 t
 raised-in by m k t p h =

@@ -15,7 +15,7 @@ const WORDS: usize = 768;
 // A trial record: n states, how many requirements it lists, the bit, the states that have moved, the looks so far. Each requirement is a family of its
 // own, in three words; the table has each state's level, as passes have it.
 #[repr(C)]
-#[derive(Drop)]
+#[derive(Clone, Copy)]
 pub struct Trial {
     pub states: usize,
     pub count: usize,
@@ -27,7 +27,7 @@ pub struct Trial {
 }
 
 // What a start or a move answers: the record, and whether the call was accepted.
-#[derive(Drop)]
+#[derive(Clone, Copy)]
 pub struct Answer {
     pub verdict: rules::Verdict,
     pub trial: Trial,

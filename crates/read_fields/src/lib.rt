@@ -6,14 +6,14 @@ ghost use Rattle.read_fields.specs.Fields.{number_shaped, places_of, places_in, 
 use rules::{Numeral, Pattern};
 
 // What a field of three kinds of characters says: the places of two of the kinds.
-#[derive(Drop)]
+#[derive(Clone, Copy)]
 pub enum Places {
     Read(u64, u64),
     Bad,
 }
 
 // What a field of `0 1 -` says.
-#[derive(Drop)]
+#[derive(Clone, Copy)]
 pub enum PatternField {
     Read(Pattern),
     Bad,

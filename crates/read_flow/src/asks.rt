@@ -13,14 +13,14 @@ use rules::Requirement;
 const MANY: usize = 65;
 
 // The first 64 dichotomies, and how many there were, or that there were more.
-#[derive(Drop)]
+#[derive(Clone, Copy)]
 pub struct Gathered {
     pub count: usize,
     pub asked: [Requirement; rules::MOST_DICHOTOMIES],
 }
 
 // The sets of a column, in the first places of a table, and the destinations met so far.
-#[derive(Drop)]
+#[derive(Clone, Copy)]
 pub struct Sets {
     pub count: usize,
     pub sets: [u64; rules::MOST_STATES],

@@ -17,7 +17,7 @@ use rules::{Head, Refusal, Requirement, Verdict};
 use says::Said;
 
 // What the reader answers: the dichotomies in the first places of a table, none where it is refused.
-#[derive(Drop)]
+#[derive(Clone, Copy)]
 pub struct Flow {
     pub verdict: Verdict,
     pub dichotomies: usize,

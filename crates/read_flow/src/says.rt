@@ -8,7 +8,7 @@ ghost use Rattle.read_flow.specs.Flows.{said_of, line_says, end_says, flow_reaso
 
 use rules::{EndLine, FlowLine, Mark, Refusal};
 
-#[derive(Drop)]
+#[derive(Clone, Copy)]
 pub enum Said {
     Line,
     End,

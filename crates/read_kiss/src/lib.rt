@@ -89,7 +89,7 @@ fn row_added(s: &[u8], at: usize, k: usize, row: KissRow, d: Draft) -> More
 }
 
 // How far the lines come: why the text is refused, if one of them refuses it, and what they have made by then.
-#[derive(Drop)]
+#[derive(Clone, Copy)]
 struct Walk {
     verdict: Verdict,
     draft: Draft,
@@ -160,7 +160,7 @@ pub fn read_kiss(bytes: &[u8]) -> Reading
 }
 
 // The names of the states, as places in the bytes; or why there are none.
-#[derive(Drop)]
+#[derive(Clone, Copy)]
 pub struct Named {
     pub verdict: Verdict,
     pub names: Names,

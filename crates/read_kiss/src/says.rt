@@ -9,7 +9,7 @@ use read_names::Piece;
 use rules::{EndLine, KissHeads, KissMark, Refusal};
 
 // A line gives the headers anew, the name of `.r`, or a row, ends the text, or is refused.
-#[derive(Drop)]
+#[derive(Clone, Copy)]
 pub enum Said {
     Heads(KissHeads),
     Reset(Piece),

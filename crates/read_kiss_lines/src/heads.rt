@@ -7,7 +7,7 @@ ghost use Rattle.read_kiss_lines.specs.Says.{inputs_told, outputs_told, told, he
 use rules::{KissHeads, KissMark, Numeral, Refusal, Told};
 
 // What a reader of one header answers: the headers with it, or the refusal.
-#[derive(Drop)]
+#[derive(Clone, Copy)]
 pub enum HeadsLine {
     Read(KissHeads),
     Refused(Refusal),

@@ -10,21 +10,21 @@ use read_pieces::{cut, field};
 use rules::{Pattern, Refusal};
 
 // Where the two states of a row stand in its line.
-#[derive(Drop)]
+#[derive(Clone, Copy)]
 pub struct StatePieces {
     pub present: Piece,
     pub next: Piece,
 }
 
 // What a line of a row says.
-#[derive(Drop)]
+#[derive(Clone, Copy)]
 pub struct KissRow {
     pub input: Pattern,
     pub states: StatePieces,
     pub outputs: Pattern,
 }
 
-#[derive(Drop)]
+#[derive(Clone, Copy)]
 pub enum KissRowLine {
     Read(KissRow),
     Refused(Refusal),

@@ -8,7 +8,7 @@ use read_pieces::{cut, field, field_count};
 use rules::{EndLine, Refusal};
 
 // What a reader of an `.r` line answers: where the name stands in the line, or the refusal.
-#[derive(Drop)]
+#[derive(Clone, Copy)]
 pub enum ResetLine {
     Read(Piece),
     Refused(Refusal),

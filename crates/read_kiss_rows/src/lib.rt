@@ -10,7 +10,7 @@ use read_names::Names;
 use rules::{KissHeads, Row};
 
 // What the lines so far have said: the headers, the names, and the rows, in the first places of a table.
-#[derive(Drop)]
+#[derive(Clone, Copy)]
 pub struct Draft {
     pub heads: KissHeads,
     pub names: Names,
@@ -19,7 +19,7 @@ pub struct Draft {
 }
 
 // The draft with a row more, unless it is full.
-#[derive(Drop)]
+#[derive(Clone, Copy)]
 pub struct More {
     pub full: bool,
     pub draft: Draft,

@@ -9,7 +9,7 @@ use read_names::{Names, Piece};
 const EVERYONE: u64 = 18446744073709551615;
 
 // The names when a field has named a state, the state as a set, and whether there was no room for its name.
-#[derive(Drop)]
+#[derive(Clone, Copy)]
 pub struct Called {
     pub names: Names,
     pub set: u64,
@@ -17,7 +17,7 @@ pub struct Called {
 }
 
 // The names when a row has named its states, and both as sets.
-#[derive(Drop)]
+#[derive(Clone, Copy)]
 pub struct RowStates {
     pub names: Names,
     pub group: u64,

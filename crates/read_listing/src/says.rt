@@ -12,7 +12,7 @@ use rules::{
 };
 
 // What a line does: it gives the head, a row, a dichotomy or the outputs of a state, ends the listing, or is refused.
-#[derive(Drop)]
+#[derive(Clone, Copy)]
 pub enum Said {
     Head(Head),
     Row(Row),

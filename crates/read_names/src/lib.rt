@@ -5,14 +5,14 @@ ghost use Rattle.rules.specs.Kiss.{number_of};
 ghost use Rattle.read_names.specs.Names.{piece_of, names_in, no_names, with_name};
 
 // Where a name stands in the text: from one byte up to another.
-#[derive(Drop)]
+#[derive(Clone, Copy)]
 pub struct Piece {
     pub start: usize,
     pub end: usize,
 }
 
 // The names so far: that of state k at place k.
-#[derive(Drop)]
+#[derive(Clone, Copy)]
 pub struct Names {
     pub count: usize,
     pub places: [Piece; rules::MOST_STATES],

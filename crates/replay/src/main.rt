@@ -1,42 +1,41 @@
 // Replays a recorded run: `replay LISTING RUN`, the names of two files. It prints a line for each step, and `NO number line` last where the listing or the run
 // is refused. The listing is encoded once, and the run is read in pieces; no buffer is larger than the largest listing.
-ghost use Rattle.std.specs.Prelude.{◌≡◌, ◌≤◌, length};
+#![tactic(auto)]
+
+ghost use Rattle.std.specs.Prelude.{◌≡◌, ◌≤◌, length, IfOk};
 
 use host_replies::Ready;
 use host_replies::plans::Wanted;
-use libc::STDOUT_FILENO;
 use rules::Verdict;
 use run_replay::{Machines, Place};
+use std::io::{self, Read, Write};
+use std::process::ExitCode;
+
+const USAGE: &str = "replay LISTING RUN";
 
 // The bytes of a run that are read at a time. A line that is longer is bad, and what they print always fits the other buffer.
 const PIECE: usize = 512;
 
 // The place that a run has come to, and whether it goes on from there.
-#[derive(Drop)]
+#[derive(Clone, Copy)]
 struct Shown {
     place: Place,
     more: bool,
 }
 
 // How far a run is replayed, and how many bytes behind that are read: they stand at the start of the buffer.
-#[derive(Drop)]
+#[derive(Clone, Copy)]
 struct Going {
     shown: Shown,
     held: usize,
 }
 
 // The listing, read and coded for its cover.
-fn read_ready(fd: i32) -> Ready {
-    let mut listing = io::large_buffer();
-    let read = io::read_full(fd, &mut listing);
-    let more = host_programs::goes_on(fd, read);
-    host_prints::prepare(Wanted::Cover, &listing[..read], more)
-}
-
-fn piece_buffer() -> [u8; PIECE]
-    ensures { 512 ≡ length result }
-{
-    [0; PIECE]
+fn read_ready<R: Read>(file: &mut R) -> io::Result<Ready> {
+    let mut listing = [0u8; rules::MOST_BYTES];
+    let read = host_programs::fill(file, &mut listing, 0)?;
+    let more = host_programs::goes_on(file, read)?;
+    Ok(host_prints::prepare(Wanted::Cover, &listing[..read], more))
 }
 
 // How many of the bytes read are replayed now: at the end of the run all, else the whole lines.
@@ -60,41 +59,54 @@ fn is_open(place: Place) -> bool {
 }
 
 // Prints what a piece of a run does.
-fn print_piece(m: Machines, place: Place, bytes: &[u8], out: &mut [u8]) -> Shown {
+fn print_piece<W: Write>(
+    m: Machines,
+    place: Place,
+    bytes: &[u8],
+    out: &mut [u8],
+    output: &mut W,
+) -> io::Result<Shown> {
     let printed = host_replay::print_piece(m, place, bytes, out);
-    let given = printed.given;
+    output.write_all(&out[..printed.given])?;
     let reached = printed.place;
-    let written = io::write_all(STDOUT_FILENO, &out[..given]);
-    let more = written && is_open(reached);
-    Shown {
+    Ok(Shown {
         place: reached,
-        more,
-    }
+        more: is_open(reached),
+    })
 }
 
 // Reads as much of a run as the buffer holds, and prints what its whole lines do; at the end of the run, what all that is left does.
-fn print_some(m: Machines, going: Going, fd: i32, bytes: &mut [u8], out: &mut [u8]) -> Going
+fn print_some<R: Read, W: Write>(
+    m: Machines,
+    going: Going,
+    run: &mut R,
+    bytes: &mut [u8],
+    out: &mut [u8],
+    output: &mut W,
+) -> io::Result<Going>
     requires { going.held ≤ length bytes.old }
-    ensures { result.held ≤ length bytes.new }
+    ensures { IfOk result (λ next. next.held ≤ length bytes.new) }
 {
-    let from = going.shown;
-    let place = from.place;
-    let filled = host_programs::fill(fd, bytes, going.held);
+    let filled = host_programs::fill(run, bytes, going.held)?;
     let last = filled < bytes.len();
     let end = piece_of(bytes, filled, last);
-    let shown = print_piece(m, place, &bytes[..end], out);
+    let shown = print_piece(m, going.shown.place, &bytes[..end], out, output)?;
     let held = host_programs::move_up(bytes, end, filled);
-    let reached = shown.place;
-    let more = shown.more && !last;
     let next = Shown {
-        place: reached,
-        more,
+        place: shown.place,
+        more: shown.more && !last,
     };
-    Going { shown: next, held }
+    Ok(Going { shown: next, held })
 }
 
-// Replays a run to its end. A proved loop has to end, and nothing says that a file does: so the turns are counted down from a number that no run uses up.
-fn print_run(m: Machines, fd: i32, bytes: &mut [u8], out: &mut [u8]) {
+// Replays a run to its end. A proved loop has to end, and nothing says that a file does: so the turns are counted up to a number that no run reaches.
+fn print_run<R: Read, W: Write>(
+    m: Machines,
+    run: &mut R,
+    bytes: &mut [u8],
+    out: &mut [u8],
+    output: &mut W,
+) -> io::Result<()> {
     let first = Shown {
         place: Place::First,
         more: true,
@@ -103,42 +115,40 @@ fn print_run(m: Machines, fd: i32, bytes: &mut [u8], out: &mut [u8]) {
         shown: first,
         held: 0,
     };
-    let mut turns = u64::MAX;
-    while 0 < turns {
-        going = print_some(m, going, fd, bytes, out);
-        let shown = going.shown;
-        if !shown.more {
-            return;
+    for _ in 0..u64::MAX {
+        going = print_some(m, going, run, bytes, out, output)?;
+        if !going.shown.more {
+            break;
         }
-        turns -= 1;
     }
+    Ok(())
 }
 
 // The replay of a run, or why the listing is refused.
-fn print_replay(ready: Ready, fd: i32) {
-    let mut out = io::large_buffer();
+fn print_replay<R: Read, W: Write>(ready: Ready, run: &mut R, output: &mut W) -> io::Result<()> {
+    let mut out = [0u8; rules::MOST_BYTES];
     let verdict = ready.verdict;
     match verdict {
         Verdict::Refused(_, _) => {
             let given = host_prints::print(ready, 0, &mut out);
-            io::write_all(STDOUT_FILENO, &out[..given]);
+            output.write_all(&out[..given])
         }
         Verdict::Accepted => {
             let m = host_replay::machines(ready);
-            let mut bytes = piece_buffer();
-            print_run(m, fd, &mut bytes, &mut out);
+            let mut bytes = [0u8; PIECE];
+            print_run(m, run, &mut bytes, &mut out, output)
         }
     }
 }
 
-fn main() {
-    let listing = host_programs::open_argument(1, b"replay LISTING RUN");
-    if listing < 0 {
-        return;
-    }
-    let run = host_programs::open_argument(2, b"replay LISTING RUN");
-    if run < 0 {
-        return;
-    }
-    print_replay(read_ready(listing), run)
+fn main(rt: HostRuntime) -> io::Result<ExitCode> {
+    let Some(mut listing) = host_programs::open_argument(&rt, 1, USAGE) else {
+        return Ok(ExitCode::FAILURE);
+    };
+    let Some(mut run) = host_programs::open_argument(&rt, 2, USAGE) else {
+        return Ok(ExitCode::FAILURE);
+    };
+    let ready = read_ready(&mut listing)?;
+    print_replay(ready, &mut run, &mut io::writer(&rt))?;
+    Ok(ExitCode::SUCCESS)
 }

@@ -50,26 +50,26 @@ pub const MOST_CHECKED: usize = 256;
 
 // A state's number, from 0. Moves and gains take it, a C host's too.
 #[repr(C)]
-#[derive(Drop)]
+#[derive(Clone, Copy)]
 pub struct StateNumber(pub usize);
 
 // A requirement's number, from 0. Judgements of meeting, `BY` and `UN` lines take it.
-#[derive(Drop)]
+#[derive(Clone, Copy)]
 pub struct RequirementNumber(pub usize);
 
 // A bit's number in a code, from 0, leftmost first.
-#[derive(Drop)]
+#[derive(Clone, Copy)]
 pub struct BitNumber(pub usize);
 
 // A requirement: its first and its second block, each a set of states.
-#[derive(Drop)]
+#[derive(Clone, Copy)]
 pub struct Requirement {
     pub first: u64,
     pub second: u64,
 }
 
 // What a code is judged to do for a requirement: the lowest bit that meets it, or that none does.
-#[derive(Drop)]
+#[derive(Clone, Copy)]
 pub enum Judgement {
     By(BitNumber),
     ByNone,
@@ -89,7 +89,7 @@ impl Judgement {
 
 // What `MC` or `MO` says: how many states, inputs and outputs, the width, whether the cover keeps the rows that say nothing, and whether it was `MO`: the
 // outputs of a Moore machine depend on the state alone.
-#[derive(Drop)]
+#[derive(Clone, Copy)]
 pub struct Head {
     pub states: usize,
     pub inputs: usize,
@@ -100,14 +100,14 @@ pub struct Head {
 }
 
 // Characters `0 1 -` of a field: digit j of a mask is character j.
-#[derive(Drop)]
+#[derive(Clone, Copy)]
 pub struct Pattern {
     pub ones: u32,
     pub dashes: u32,
 }
 
 // What `PT` says, and the line where it stands. `next` has one state, or none.
-#[derive(Drop)]
+#[derive(Clone, Copy)]
 pub struct Row {
     pub input: Pattern,
     pub group: u64,
@@ -118,7 +118,7 @@ pub struct Row {
 
 // A listing: its head, its rows in the first places of a table, its dichotomies in the first places of another, the outputs that `OU` lines say, state s at
 // place s of a third, and the set of the states that have one.
-#[derive(Drop)]
+#[derive(Clone, Copy)]
 pub struct Listing {
     pub head: Head,
     pub rows: usize,
@@ -130,7 +130,7 @@ pub struct Listing {
 }
 
 // Why a call is refused, in the order of their numbers, of which 8 is unused.
-#[derive(Drop)]
+#[derive(Clone, Copy)]
 pub enum Refusal {
     BadLine,
     Limit,
@@ -177,14 +177,14 @@ impl Refusal {
 }
 
 // A call's outcome: accepted, or refused at a line.
-#[derive(Drop)]
+#[derive(Clone, Copy)]
 pub enum Verdict {
     Accepted,
     Refused(Refusal, usize),
 }
 
 // The mark that leads a line.
-#[derive(Drop)]
+#[derive(Clone, Copy)]
 pub enum Mark {
     Mc,
     Mo,
@@ -197,7 +197,7 @@ pub enum Mark {
 }
 
 // The mark that leads a line of a KISS2 text; a line without one is a row.
-#[derive(Drop)]
+#[derive(Clone, Copy)]
 pub enum KissMark {
     Inputs,
     Outputs,
@@ -210,14 +210,14 @@ pub enum KissMark {
 }
 
 // A number that a header of a KISS2 text tells, and its line, which is 0 while the header is missing.
-#[derive(Drop)]
+#[derive(Clone, Copy)]
 pub struct Told {
     pub number: usize,
     pub line: usize,
 }
 
 // What the headers of a KISS2 text say, with 0 inputs or outputs while those are missing, whether `.r` came, and how many lines of rows stand behind them so far.
-#[derive(Drop)]
+#[derive(Clone, Copy)]
 pub struct KissHeads {
     pub inputs: usize,
     pub outputs: usize,
@@ -228,72 +228,72 @@ pub struct KissHeads {
 }
 
 // What a field says as a number.
-#[derive(Drop)]
+#[derive(Clone, Copy)]
 pub enum Numeral {
     Is(usize),
     Bad,
 }
 
 // What a reader of one line answers: what the line says, or the refusal.
-#[derive(Drop)]
+#[derive(Clone, Copy)]
 pub enum HeadLine {
     Read(Head),
     Refused(Refusal),
 }
 
-#[derive(Drop)]
+#[derive(Clone, Copy)]
 pub enum RowLine {
     Read(Row),
     Refused(Refusal),
 }
 
-#[derive(Drop)]
+#[derive(Clone, Copy)]
 pub enum DichotomyLine {
     Read(Requirement),
     Refused(Refusal),
 }
 
-#[derive(Drop)]
+#[derive(Clone, Copy)]
 pub enum OutputsLine {
     Read(StateNumber, Pattern),
     Refused(Refusal),
 }
 
-#[derive(Drop)]
+#[derive(Clone, Copy)]
 pub enum EndLine {
     Read,
     Refused(Refusal),
 }
 
 // The entries of a flow table's line are read one by one, from the line.
-#[derive(Drop)]
+#[derive(Clone, Copy)]
 pub enum FlowLine {
     Read,
     Refused(Refusal),
 }
 
 // The same of the lines of a recorded run: the state that it starts in, and an input vector, input j digit j.
-#[derive(Drop)]
+#[derive(Clone, Copy)]
 pub enum StartLine {
     Read(StateNumber),
     Refused(Refusal),
 }
 
-#[derive(Drop)]
+#[derive(Clone, Copy)]
 pub enum VectorLine {
     Read(u64),
     Refused(Refusal),
 }
 
 // What the reader of a whole listing answers; the listing is blank where it is refused.
-#[derive(Drop)]
+#[derive(Clone, Copy)]
 pub struct Reading {
     pub verdict: Verdict,
     pub listing: Listing,
 }
 
 // What the encoder answers: a code, bit k the set of the states with value 1 in it; how many requirements there are, and how many of them no bit meets.
-#[derive(Drop)]
+#[derive(Clone, Copy)]
 pub struct Encoding {
     pub verdict: Verdict,
     pub width: usize,
@@ -305,21 +305,21 @@ pub struct Encoding {
 }
 
 // What `SC` lines say: how many bits the codes have, and the code of state s at place s, bit k its digit k.
-#[derive(Drop)]
+#[derive(Clone, Copy)]
 pub struct CodeTable {
     pub width: usize,
     pub table: [u64; MOST_STATES],
 }
 
 // What the reader of `SC` lines answers; where it is refused there are no bits.
-#[derive(Drop)]
+#[derive(Clone, Copy)]
 pub struct CodesReading {
     pub verdict: Verdict,
     pub codes: CodeTable,
 }
 
 // The line that comes next in a cover.
-#[derive(Drop)]
+#[derive(Clone, Copy)]
 pub enum CoverPart {
     Inputs,
     Outputs,
@@ -330,7 +330,7 @@ pub enum CoverPart {
 }
 
 // What the lines of a cover say so far: the line that comes next, the numbers of `.i`, `.o` and `.p`, and how many rows there were.
-#[derive(Drop)]
+#[derive(Clone, Copy)]
 pub struct CoverHeads {
     pub part: CoverPart,
     pub inputs: usize,
@@ -340,14 +340,14 @@ pub struct CoverHeads {
 }
 
 // What one line of a cover does: it goes on, or is refused.
-#[derive(Drop)]
+#[derive(Clone, Copy)]
 pub enum CoverLine {
     Read(CoverHeads),
     Refused(Refusal),
 }
 
 // Where a cover does not agree with its listing: the lowest state, and for it the lowest input, the leftmost the highest digit.
-#[derive(Drop)]
+#[derive(Clone, Copy)]
 pub enum Fault {
     At(StateNumber, usize),
     Nowhere,

@@ -11,7 +11,7 @@ use rules::{Head, Listing, Pattern, Row};
 pub const MOST_TERMS: usize = 192;
 
 // A row of a cover as its line says it: its input; its face, which takes the codes between a lowest and a highest; and the next code.
-#[derive(Drop)]
+#[derive(Clone, Copy)]
 pub struct Term {
     pub input: Pattern,
     pub low: u64,
@@ -20,7 +20,7 @@ pub struct Term {
 }
 
 // The rows of a cover, in the first places of a table.
-#[derive(Drop)]
+#[derive(Clone, Copy)]
 pub struct Terms {
     pub count: usize,
     pub table: [Term; MOST_TERMS],

@@ -11,7 +11,7 @@ use run_encoded::Terms;
 use write_parts::Part;
 
 // Both machines: the listing, the first `width` bits of a code, and the rows that the cover prints by them.
-#[derive(Drop)]
+#[derive(Clone, Copy)]
 pub struct Machines {
     pub listing: Listing,
     pub width: usize,
@@ -20,7 +20,7 @@ pub struct Machines {
 }
 
 // A place in a run: before its first line; behind `SS` and so many steps, at a state and a code; or behind its end.
-#[derive(Drop)]
+#[derive(Clone, Copy)]
 pub enum Place {
     First,
     Behind(u32, usize, u64),
@@ -28,7 +28,7 @@ pub enum Place {
 }
 
 // A part to which the lines of a piece are added, and the place that the run has come to.
-#[derive(Drop)]
+#[derive(Clone, Copy)]
 pub struct Ran {
     pub part: Part,
     pub place: Place,
@@ -36,7 +36,7 @@ pub struct Ran {
 
 // What a step gives: of the symbolic machine the next state, as a set of one or of none and by its number, and the outputs; of the encoded one the next
 // code.
-#[derive(Drop)]
+#[derive(Clone, Copy)]
 struct Moved {
     next: u64,
     state: usize,

@@ -7,7 +7,7 @@ ghost use Rattle.run_symbolic.specs.Told.{told_with, told_by, untold, outputs_to
 use rules::{Head, Listing, Pattern, Row};
 
 // What firing rows say: the next state, as a set of one or of none, and the outputs of which some of them say 1, or dash.
-#[derive(Drop)]
+#[derive(Clone, Copy)]
 pub struct Told {
     pub next: u64,
     pub ones: u32,

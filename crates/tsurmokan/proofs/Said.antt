@@ -25,7 +25,7 @@ use Rattle.tsurmokan.specs.Signed.{signed, Within}
 
 -- a number of 64 bits, read back as it was
 pub back : {z : ℤ} → mag z < 9223372036854775808 → to_z w64 (of_z w64 z) ≡ z
-back h = to_z-of_z (record { sfits = h })
+back h = to_z-of_z {w = w64} (record { sfits = h })
 
 -- a part is no longer than the text
 part-short : (room from : ℕ) (text : List ℕ) → length (part room from text) ≤ length text

@@ -6,7 +6,7 @@ ghost use Rattle.tsurmokan.specs.Started.{numbered};
 
 // What a start answers: 0 or the number of its refusal, and the record, the empty one where it is refused.
 #[repr(C)]
-#[derive(Drop)]
+#[derive(Clone, Copy)]
 pub struct Started {
     pub refusal: u32,
     pub trial: move_trial::Trial,

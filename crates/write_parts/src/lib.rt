@@ -4,7 +4,7 @@ ghost use Rattle.std.specs.Prelude.{◌≡◌};
 ghost use Rattle.write_parts.specs.Parts.{begun, fits, open_for, added};
 
 // How a part stands: how many bytes of the text are still to be passed over, how many the buffer holds, and whether a line did not fit.
-#[derive(Drop)]
+#[derive(Clone, Copy)]
 pub struct Part {
     pub skip: usize,
     pub given: usize,

@@ -19,14 +19,14 @@ use write_parts::Part;
 const LISTED: usize = 45;
 
 // Which requirements have their line: those that a bit meets, with its number, or those that none does.
-#[derive(Drop)]
+#[derive(Clone, Copy)]
 pub enum Listed {
     Met,
     Unmet,
 }
 
 // How a walk over the requirements left a part, and how many it came upon that no bit meets.
-#[derive(Drop)]
+#[derive(Clone, Copy)]
 struct Walked {
     part: Part,
     unmet: usize,

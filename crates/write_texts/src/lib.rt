@@ -9,7 +9,7 @@ use rules::{Encoding, Listing, Verdict};
 use write_parts::Part;
 
 // Which text is written.
-#[derive(Drop)]
+#[derive(Clone, Copy)]
 pub enum Text {
     Report,
     Cover,

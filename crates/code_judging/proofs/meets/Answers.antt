@@ -1,0 +1,14 @@
+-- `code_judging::meets` meets its contract: one way round, and the other.
+use Rattle.code_judging.proofs.Ways.{met-one-way, met-other-way}
+use mathlib.Core.Path.{sym, ◌∙◌}
+use Rattle.code_judging.proofs.meets.Goals as goal
+
+pub returns-then-parts : goal.returns-then-parts
+returns-then-parts c =
+    let s = c.args in
+    sym (met-one-way 64 s.b s.first s.second (sym c.parts.ensures ∙ c.if-parts.true))
+
+pub returns : goal.returns
+returns c =
+    let s = c.args in
+    c.parts-2.ensures ∙ sym (met-other-way 64 s.b s.first s.second (sym c.parts.ensures ∙ c.if-parts.false))

@@ -1,0 +1,25 @@
+-- `judge_codes::code_in` meets its contract.
+use mathlib.Core.Path.{sym, ◌∙◌}
+use native.Mathlib.Omega.{arith}
+use Rattle.rules.specs.Limits.{most_bits}
+use Rattle.rules.specs.Text.{nought, one}
+use Rattle.read_fields.proofs.Sets.{places-read, places-none}
+use Rattle.judge_codes.proofs.Laws.{field-dash, field-none, field-unfit, field_fit}
+use Rattle.judge_codes.proofs.code_in.Goals as goal
+
+pub returns-then-is_dash : goal.returns-then-is_dash
+returns-then-is_dash c =
+    field-dash _ c.if-w-eq0.true (sym c.is_dash.ensures ∙ c.if-is_dash.true)
+
+pub returns-then-w-eq0 : goal.returns-then-w-eq0
+returns-then-w-eq0 c =
+    field-none _ c.if-w-eq0.true (sym c.is_dash.ensures ∙ c.if-is_dash.false)
+
+pub returns-in_default : goal.returns-in_default
+returns-in_default c =
+    field-unfit _ _ c.if-w-eq0.false (places-none nought one one _ most_bits _ (λ l. omega arith) (sym c.places_in.ensures ∙ c.in_default.is))
+
+pub returns : goal.returns
+returns c =
+    let fit = places-read nought one one _ most_bits _ (λ l. omega arith) (sym c.places_in.ensures ∙ c.in-Read.is) in
+    field_fit _ _ c.if-w-eq0.false fit.0 fit.1

@@ -1,0 +1,10 @@
+-- `move_halves::put_worth` meets its contract.
+use mathlib.Core.Path.{sym, ◌∙◌}
+use Rattle.move_halves.specs.Halves.{worth}
+use Rattle.move_halves.proofs.Far.{halved-far}
+use Rattle.move_halves.proofs.put_worth.Goals as goal
+
+pub returns-else-few : goal.returns-else-few
+returns-else-few c =
+    let a = c.args in
+    sym (halved-far a.on (worth a.out a.right) a.all a.side a.right a.rest a.t.now (sym c.few.ensures ∙ c.if-few.false))

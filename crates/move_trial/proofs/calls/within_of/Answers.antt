@@ -1,0 +1,7 @@
+-- `move_trial::calls::within_of` meets its contract.
+use Rattle.move_trial.proofs.Pairs.{within-wide}
+use Rattle.std.proofs.Common.{rules}
+use Rattle.move_trial.proofs.calls.within_of.Goals as goal
+
+pub returns-then-n-ge64 : goal.returns-then-n-ge64
+returns-then-n-ge64 c = within-wide c.args.n c.args.m c.if-n-ge64.true (search rules)

@@ -1,0 +1,22 @@
+-- `asks::with_others` meets its contract: what is gathered, with the sets from i on, is what is gathered with all of them.
+use mathlib.Core.Path.{sym, ap, ◌∙◌}
+use mathlib.Core.List.{map}
+use Prim.Native.Nat.{◌+◌}
+use native.Mathlib.Omega.{arith}
+use lib.ListN.{drop}
+use Rattle.read_flow.specs.declared.asks.Gathered.{Gathered}
+use Rattle.read_flow.specs.Gathering.{between, with_all}
+use Rattle.read_flow.proofs.Gathered.{others-next, others-end}
+use Rattle.read_flow.proofs.asks.with_others.Goals as goal
+
+pub loop-i-preserved : goal.loop-i-preserved
+loop-i-preserved c =
+    let l = c.loop-i in
+    let a = c.args in
+    ap (λ (g : Gathered). with_all (map (between a.first) (drop (l.i + 1) a.others.now)) g) c.with_asked-more.ensures
+    ∙ sym (others-next a.first a.others.now l.i l.more (omega arith)) ∙ l.invariant
+
+pub returns : goal.returns
+returns c =
+    let l = c.loop-i in
+    sym (others-end _ _ l.i l.more (omega arith)) ∙ l.invariant

@@ -1,0 +1,161 @@
+-- `read_kiss::read_lines` meets its contract: the lines from number k on, behind those that made d, say what all the lines say.
+use mathlib.Core.List.{List}
+use Prim.Native.Nat.{ℕ}
+use lib.ListN.{length-take}
+use Rattle.rules.specs.declared.KissHeads.{KissHeads}
+use Rattle.read_names.specs.declared.Piece.{Piece}
+use Rattle.read_kiss_lines.specs.declared.row.KissRow.{KissRow}
+use Rattle.read_kiss_rows.specs.Drafts.{more_of}
+use Rattle.read_kiss_rows.specs.declared.More.{More}
+use Rattle.read_kiss.proofs.Fields.{Inside}
+use mathlib.Core.Path.{subst}
+use Rattle.rules.specs.Text.{lines_of}
+use Rattle.rules.specs.Kiss.{no_draft, with_line, Draft as Drafted, KissStep}
+use Rattle.read_pieces.proofs.Laws.{part, cut_of}
+use Rattle.read_kiss_rows.specs.Drafts.{draft_in, more_in}
+use Rattle.read_kiss_rows.specs.declared.Draft.{Draft}
+use Rattle.read_kiss_rows.proofs.Meant.{Room, more-means}
+use Rattle.read_kiss.specs.declared.says.Said.{Said}
+use Rattle.read_kiss.specs.Says.{step_of, moved_row, reset_to}
+use Rattle.read_kiss.specs.Walks.{walked, Walks}
+use Rattle.rules.specs.declared.Verdict.{Verdict}
+use Rattle.read_kiss_rows.proofs.NamesMeant.{names-count}
+use Rattle.read_kiss.proofs.Endings.{end_is}
+use Rattle.read_kiss.proofs.Saying.{says-within, says-counts}
+use Rattle.read_kiss.proofs.Steps.{behind, read-line, read-last, none_yet, none-room, heads_done, reset-done, reset-room, row_done, row_keeps, more-full}
+use Prim.Native.Nat.{◌<◌, ◌-◌, ◌+◌}
+use mathlib.Core.Path.{◌≡◌, sym, ap, ◌∙◌}
+use mathlib.Core.Bool.{false}
+use native.Mathlib.Omega.{arith}
+use lib.ListN.{length, drop}
+use Rattle.read_kiss.proofs.read_lines.Goals.{After-line_said-said, in-Heads, in-Reset, in-Row+else-more}
+use Rattle.read_kiss.proofs.read_lines.Goals as goal
+
+-- a line that says x: what stands behind it decides
+all_lines : (c : After-line_said-said) {x : Said} → c.line_said-said.result ≡ x
+    → behind (step_of (part c.args.s.now c.loop-end.at c.loop-end.end) c.loop-end.k x (draft_in c.args.s.now c.loop-end.d)) c.loop-end.k
+    (draft_in c.args.s.now c.loop-end.d) (lines_of (drop (c.loop-end.end + 1) c.args.s.now))
+    ≡ walked 1 no_draft (lines_of c.args.s.now)
+all_lines c e =
+    let l = c.loop-end in
+    sym (read-line c.args.s.now l.d l.invariant.3 l.k l.at l.end l.invariant.0 (omega arith) (sym e ∙ c.line_said-said.ensures)) ∙ l.invariant.2
+
+-- so far it has come
+walks : (s : List ℕ) (d : Draft) → Room d → {v : Verdict} {w : Verdict × Drafted} → ◌≡◌ {A = Verdict × Drafted} (v, draft_in s d) w → Walks s v d w
+walks s d r e = record { same = e; count = names-count s d.names r.names; few = r.names.few }
+
+-- the places that a line names fit
+places-fit : (c : After-line_said-said) (p : Piece) → Inside (length (part c.args.s.now c.loop-end.at c.loop-end.end)) p
+    → (c.loop-end.at + p.start < 18446744073709551616) × (c.loop-end.at + p.end < 18446744073709551616)
+places-fit c p i =
+    let l = c.loop-end in
+    let n = length-take (l.end - l.at) (drop l.at c.args.s.now) in
+    (omega (arith, i.start, n), omega (arith, i.end, n))
+
+-- the draft behind a line that goes on
+abbrev Next : After-line_said-said → Draft → Type 0
+Next c u =
+    (walked (c.loop-end.k + 1) (draft_in c.args.s.now u) (lines_of (drop (c.loop-end.end + 1) c.args.s.now)) ≡ walked 1 no_draft (lines_of c.args.s.now))
+    × Room u
+    × (u.heads.lines < c.loop-end.k + 1)
+
+heads-next : (c : After-line_said-said) (h : KissHeads) → c.line_said-said.result ≡ Said.Heads h
+    → Next c (record { heads = h; names = c.loop-end.d.names; rows = c.loop-end.d.rows; table = c.loop-end.d.table })
+heads-next c h e =
+    let l = c.loop-end in
+    let s = c.args.s.now in
+    let r = l.invariant.3 in
+    let n = says-counts _ _ _ _ (sym e ∙ c.line_said-said.ensures) in (
+      ap (λ (y : KissStep). behind y l.k (draft_in s l.d) (lines_of (drop (l.end + 1) s))) (sym (heads_done s l.at l.end l.k l.d r h)) ∙ all_lines c e,
+      record { names = r.names; few = r.few; table = r.table },
+      omega (arith, n, l.invariant.4),
+    )
+
+reset-next : (c : After-line_said-said) (p : Piece) → c.line_said-said.result ≡ Said.Reset p → Next c (reset_to c.loop-end.at p c.loop-end.d)
+unfolding reset_to
+reset-next c p e =
+    let l = c.loop-end in
+    let s = c.args.s.now in
+    let r = l.invariant.3 in
+    let w = says-within _ _ _ _ (sym e ∙ c.line_said-said.ensures) in (
+      ap (λ (y : KissStep). behind y l.k (draft_in s l.d) (lines_of (drop (l.end + 1) s))) (sym (reset-done s l.at l.end l.k l.d r p w)) ∙ all_lines c e,
+      reset-room s l.at l.end l.k l.d r p,
+      omega (arith, l.invariant.4),
+    )
+
+row_next : (c : After-line_said-said) (row : KissRow) (m : More) → c.line_said-said.result ≡ Said.Row row
+    → m ≡ more_of c.args.s.now c.loop-end.k (moved_row c.loop-end.at row) (with_line c.loop-end.d.heads) c.loop-end.d → m.full ≡ false → Next c m.draft
+row_next c row m e q f =
+    let l = c.loop-end in
+    let s = c.args.s.now in
+    let r = l.invariant.3 in
+    let w = says-within _ _ _ _ (sym e ∙ c.line_said-said.ensures) in
+    let done = row_done s l.at l.end l.k l.d r row w.0 w.1 ∙ ap (more_in s) (sym q) ∙ more-full s m f in
+    let h = row_keeps s l.k (moved_row l.at row) (with_line l.d.heads) l.d in
+    let n : m.draft.heads ≡ with_line l.d.heads = subst (λ (t : More). t.full ≡ false → t.draft.heads ≡ with_line l.d.heads) (sym q) h f in (
+      ap (λ (y : KissStep). behind y l.k (draft_in s l.d) (lines_of (drop (l.end + 1) s))) (sym done) ∙ all_lines c e,
+      subst (λ (t : More). t.full ≡ false → Room t.draft) (sym q) (more-means s l.k (moved_row l.at row) l.d r).room f,
+      omega (arith, ap (λ (t : KissHeads). t.lines) n, l.invariant.4),
+    )
+
+pub loop-end-init : goal.loop-end-init
+loop-end-init c =
+    let s = c.args.s.now in
+    let b = c.no_draft-d.ensures in (
+      cut_of _ _ 0 (omega arith) c.cut-end.ensures,
+      omega arith,
+      ap (λ (d : Drafted). walked 1 d (lines_of s)) (none_yet s b),
+      (none-room b).0,
+      omega (arith, (none-room b).1),
+    )
+
+pub returns-in-Refused : goal.returns-in-Refused
+returns-in-Refused c =
+    let l = c.loop-end in
+    let s = c.args.s.now in
+    walks s l.d l.invariant.3 (all_lines (goal.at.returns-in-Refused c).After-line_said-said c.in-Refused.is)
+
+pub returns-in-End : goal.returns-in-End
+returns-in-End c =
+    let l = c.loop-end in
+    let s = c.args.s.now in
+    walks s l.d l.invariant.3
+    (ap (λ (v : Verdict). (v, draft_in s l.d)) (c.after_end-verdict.ensures ∙ end_is l.k s (l.end + 1)) ∙ all_lines (goal.at.returns-in-End c).After-line_said-said c.in-End.is)
+
+pub with_reset-d-requires : goal.with_reset-d-requires
+with_reset-d-requires c = places-fit (goal.at.with_reset-d-requires c).After-line_said-said _ (says-within _ _ _ _ (sym c.in-Reset.is ∙ c.line_said-said.ensures))
+
+pub row_added-more-requires : goal.row_added-more-requires
+row_added-more-requires c =
+    let w = says-within _ _ _ _ (sym c.in-Row.is ∙ c.line_said-said.ensures) in
+    let p = places-fit (goal.at.row_added-more-requires c).After-line_said-said _ w.0 in
+    let n = places-fit (goal.at.row_added-more-requires c).After-line_said-said _ w.1 in
+    (record { present_start = p.0; present_end = p.1; next_start = n.0; next_end = n.1 }, omega (arith, c.loop-end.invariant.4, c.loop-end.invariant.1))
+
+pub returns-then-more : goal.returns-then-more
+returns-then-more c =
+    let l = c.loop-end in
+    let s = c.args.s.now in
+    let w = says-within _ _ _ _ (sym c.in-Row.is ∙ c.line_said-said.ensures) in
+    let full = row_done s l.at l.end l.k l.d l.invariant.3 _ w.0 w.1 ∙ ap (more_in s) (sym c.row_added-more.ensures) ∙ more-full s _ c.if-more.true in
+    walks s l.d l.invariant.3
+    (ap (λ (y : KissStep). behind y l.k (draft_in s l.d) (lines_of (drop (l.end + 1) s))) (sym full) ∙ all_lines (goal.at.returns-then-more c).After-line_said-said c.in-Row.is)
+
+pub loop-end-preserved : goal.loop-end-preserved
+loop-end-preserved c =
+    let l = c.loop-end in
+    let d = (goal.at.loop-end-preserved c).After-line_said-said in
+    let next : Next d c.match-said.d = elim c.match-said.branch [
+      | in-Heads w ↦ subst (Next d) (sym w.d-is) (heads-next d _ w.in-Heads.is)
+      | in-Reset w ↦ subst (Next d) (sym w.d-is) (subst (Next d) (sym w.with_reset-d.ensures) (reset-next d _ w.in-Reset.is))
+      | in-Row+else-more w ↦ subst (Next d) (sym w.d-is) (row_next d _ w.row_added-more.result w.in-Row.is w.row_added-more.ensures w.if-more.false)
+    ]
+    in
+    (cut_of _ _ (l.end + 1) (omega arith) c.cut-end-in-loop-end.ensures, omega arith, next.0, next.1, next.2)
+
+pub returns : goal.returns
+returns c =
+    let l = c.loop-end in
+    let s = c.args.s.now in
+    walks s l.d l.invariant.3
+    (ap (λ (v : Verdict). (v, draft_in s l.d)) c.break_off-verdict.ensures ∙ sym (read-last s l.d l.k l.at l.end l.invariant.0 (omega arith)) ∙ l.invariant.2)

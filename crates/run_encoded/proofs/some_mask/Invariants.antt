@@ -1,0 +1,13 @@
+-- `run_encoded::some_mask` meets its contract: the mask stands for the bits from k on.
+use mathlib.Core.Path.{◌≡◌}
+use Prim.Native.Nat.{◌≤◌}
+use lib.ListN.{length, drop}
+use Rattle.rules.specs.Limits.{most_bits}
+use Rattle.run_encoded.specs.Terms.{some_at, mask_of}
+use Rattle.run_encoded.proofs.some_mask.Given as goal
+
+abbrev pub invariant-loop-k : goal.invariant-loop-k
+invariant-loop-k l = (l.k ≤ length l.bits) × (length l.bits ≤ most_bits) × (l.mask ≡ mask_of (some_at l.m) (drop l.k l.bits))
+
+abbrev pub decreases-loop-k : goal.decreases-loop-k
+decreases-loop-k l = l.k
