@@ -1,4 +1,6 @@
 // The choices in building a bit: which state moves next, the level that its move reaches, the best bit so far, and which way round it is kept.
+#![tactic(auto)]
+
 ghost use Rattle.std.specs.Prelude.{◌≡◌, min};
 ghost use Rattle.rules.specs.OneBit.{complemented};
 ghost use Rattle.bit_choice.specs.Pass.{highest, reached, best_of};

@@ -1,5 +1,7 @@
 // The live requirements, as the bits built so far and a list of families: the gain table is filled with them, a state is moved, they are counted, a bit
 // starts from the lowest of them, and a bit leaves some of them.
+#![tactic(auto)]
+
 mod left;
 
 ghost use Rattle.std.specs.Prelude.{◌≡◌, ◌%◌, ◌^◌, length};

@@ -1,4 +1,6 @@
 // The next bit of a code: it is built for the live requirements, and they are sifted by it.
+#![tactic(auto)]
+
 ghost use Rattle.bit_next.specs.NextBit.{AddedBit};
 
 // What a new bit is, how many words the families take that it leaves live, and what building it took.

@@ -1,4 +1,6 @@
 // One bit, by gain tables: a move touches only the live requirements that are near, and their members alone.
+#![tactic(auto)]
+
 ghost use Rattle.std.specs.Prelude.{◌≡◌, ◌+◌, ◌≤◌, length};
 ghost use Rattle.bit_choice.specs.Pass.{going, go_on, passed, passes_by, tallied, built_by};
 ghost use Rattle.bit_live.specs.Live.{live_in};

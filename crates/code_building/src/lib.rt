@@ -1,4 +1,6 @@
 // The code of a listing: bits until the width is reached or nothing is live.
+#![tactic(auto)]
+
 ghost use Rattle.std.specs.Prelude.{◌≡◌, []};
 ghost use Rattle.bit_live.specs.Live.{live_in};
 ghost use Rattle.code_encoding.specs.Encode.{encoded};

@@ -1,4 +1,6 @@
 // The requirements of a listing, drawn up as families: the pairs, the groups, the dichotomies, three numbers for each family.
+#![tactic(auto)]
+
 ghost use Rattle.std.specs.Prelude.{◌≡◌, ◌&&◌, [], ◌++◌, ◌+◌, ◌*◌, ◌≤◌, leb, ltb, length, take};
 ghost use Rattle.sets.specs.Sets.{size};
 ghost use Rattle.rules.specs.Limits.{most_states, most_rows, most_dichotomies};

@@ -1,4 +1,6 @@
 // What the encoder answers for a listing: no code and why, how many bits may be built, and whether they are enough.
+#![tactic(auto)]
+
 ghost use Rattle.std.specs.Prelude.{◌≡◌, cond, not, ◌&&◌, eqb};
 ghost use Rattle.rules.specs.Limits.{most_bits};
 ghost use Rattle.code_encoding.specs.Encode.{no_encoding};

@@ -1,4 +1,6 @@
 // Whether a listing is fair: within 01's limits, its groups and blocks sets of its states, no block overlapping its other.
+#![tactic(auto)]
+
 mod checks;
 
 ghost use Rattle.std.specs.Prelude.{◌≡◌};

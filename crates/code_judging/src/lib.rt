@@ -1,4 +1,6 @@
 // By which bit a code meets a requirement, judged from its bits by masks.
+#![tactic(auto)]
+
 ghost use Rattle.std.specs.Prelude.{◌≡◌, ◌&&◌};
 ghost use Rattle.rules.specs.Requirements.{asks, wholly, met, judgement};
 ghost use Rattle.families.specs.Families.{requirements_in};

@@ -1,4 +1,6 @@
 // The least code of a small machine: what each column meets, and the search among all codes.
+#![tactic(auto)]
+
 mod table;
 
 ghost use Rattle.std.specs.Prelude.{◌≡◌, ◌≤◌, length};

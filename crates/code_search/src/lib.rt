@@ -1,4 +1,6 @@
 // The search for the first code of so many columns that takes off all that is left: a column takes off what its mask has.
+#![tactic(auto)]
+
 ghost use Rattle.std.specs.Prelude.{◌≡◌, length};
 ghost use Rattle.rules.specs.Least.{codes_up_to, first_with};
 ghost use Rattle.code_search.specs.Search.{takes_all, searched, told, told_width};

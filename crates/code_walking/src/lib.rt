@@ -1,4 +1,6 @@
 // The requirements of some families one after the other, in their order: where a walk stands, what stands there, and the place behind it.
+#![tactic(auto)]
+
 ghost use Rattle.std.specs.Prelude.{◌≡◌, not, ◌&&◌, ◌+◌, ◌≤◌, ltb, eqb, length};
 ghost use Rattle.code_walking.specs.Walking.{entered, here, next};
 

@@ -1,4 +1,6 @@
 // What is said of a listing, and of codes and a cover from elsewhere: one line, or a refusal with its line.
+#![tactic(auto)]
+
 ghost use Rattle.std.specs.Prelude.{◌≡◌, ◌≤◌, length};
 ghost use Rattle.rules.specs.Report.{unmet_line};
 ghost use Rattle.rules.specs.Answers.{says, printed};

@@ -1,4 +1,6 @@
 // What is said of the names of a KISS2 text's states: the whole text, or a refusal with its line.
+#![tactic(auto)]
+
 ghost use Rattle.std.specs.Prelude.{◌≡◌, cond, ◌≤◌, length};
 ghost use Rattle.rules.specs.Answers.{says, refuses, printed};
 ghost use Rattle.rules.specs.NamesText.{names_text};

@@ -1,4 +1,6 @@
 // What a program prints of a listing, in parts: the text, or `NO number line`.
+#![tactic(auto)]
+
 ghost use Rattle.std.specs.Prelude.{◌≡◌, ◌≤◌, length};
 ghost use Rattle.host_replies.specs.Ready.{reply_of};
 ghost use Rattle.host_prints.specs.Printing.{ready_for, printing};

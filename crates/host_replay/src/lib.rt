@@ -1,4 +1,6 @@
 // What is said of a listing and a recorded run: the lines of the replay, whole, in parts, or a piece of the run at a time, or why the listing is refused.
+#![tactic(auto)]
+
 ghost use Rattle.std.specs.Prelude.{◌≡◌, ◌≤◌, ltb, length};
 ghost use Rattle.rules.specs.Report.{joined_lines};
 ghost use Rattle.rules.specs.Replay.{replay_reply};

@@ -1,5 +1,7 @@
 // What is said of any bytes: the report, the cover or what each width buys, the report or the cover of the least code, or the report, the cover or the listing of
 // a KISS2 text, whole or in parts, or a refusal with its line.
+#![tactic(auto)]
+
 pub mod plans;
 
 ghost use Rattle.std.specs.Prelude.{◌≡◌, ◌≤◌, ltb, length};

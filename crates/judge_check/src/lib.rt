@@ -1,4 +1,6 @@
 // A code and a cover from elsewhere, checked against a listing: all is read first, then the requirements are judged, and then the cover at each state and input.
+#![tactic(auto)]
+
 ghost use Rattle.std.specs.Prelude.{◌≡◌};
 ghost use Rattle.rules.specs.Text.{lines_of};
 ghost use Rattle.judge_check.specs.Checked.{begun_by, reader_for, settled, finished, cover_checked, found_of};

@@ -1,4 +1,6 @@
 // The reader of codes: a line `SC state code` for each state, in order.
+#![tactic(auto)]
+
 ghost use Rattle.std.specs.Prelude.{◌≡◌, ◌≤◌, min, take};
 ghost use Rattle.rules.specs.Limits.{most_states};
 ghost use Rattle.rules.specs.Text.{dash, same, lines_of};

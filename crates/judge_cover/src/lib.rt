@@ -1,4 +1,6 @@
 // The lines of a cover from elsewhere, one by one: the heads, a row, the end.
+#![tactic(auto)]
+
 ghost use Rattle.std.specs.Prelude.{◌≡◌, ◌||◌, eqb};
 ghost use Rattle.rules.specs.Text.{nought, one, dash, all_of};
 ghost use Rattle.rules.specs.CheckTexts.{number_behind, places_fit, row_good, with_inputs, with_outputs, with_products, row_counted, end_counted, cover_line_in, cover_line, fitting};

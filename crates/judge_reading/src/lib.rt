@@ -1,4 +1,6 @@
 // The reader of a cover from elsewhere, whole or a piece at a time: its verdict, and its rows in the tables of where rows fire and what they say.
+#![tactic(auto)]
+
 ghost use Rattle.std.specs.Prelude.{◌≡◌};
 ghost use Rattle.rules.specs.Text.{lines_of};
 ghost use Rattle.rules.specs.CheckTexts.{no_heads, is_over, cover_end, cover_reading};

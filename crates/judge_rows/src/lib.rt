@@ -1,4 +1,6 @@
 // The rows of a listing and of a cover as numbers, each at its place of two tables: where it fires, and what it says.
+#![tactic(auto)]
+
 ghost use Rattle.std.specs.Prelude.{◌≡◌, [], ◌∷◌, ◌+◌, ◌<◌, ◌≤◌, min, length, take, drop};
 ghost use Rattle.rules.specs.Limits.{most_states};
 ghost use Rattle.rules.specs.Listing.{all_rows};

@@ -1,5 +1,7 @@
 // The search for the lowest input at which some rows and others do not say the same. Rows are numbered from 0, those of a listing first and those of a
 // cover behind them, and a set of rows is seven words. What the rows say stands in a table of four words for each.
+#![tactic(auto)]
+
 mod backing;
 
 ghost use Rattle.std.specs.Prelude.{◌≡◌, ◌+◌, ◌*◌, ◌-◌, ◌^◌, ◌≤◌, ◌<◌, min, length};

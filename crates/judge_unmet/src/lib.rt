@@ -1,4 +1,6 @@
 // The first pair or group requirement of a listing that no bit of a code meets.
+#![tactic(auto)]
+
 ghost use Rattle.std.specs.Prelude.{◌≡◌, ◌+◌, ◌*◌, ◌≤◌, length, take};
 ghost use Rattle.rules.specs.Limits.{most_states, most_rows};
 ghost use Rattle.rules.specs.Code.{unmet_from};

@@ -1,4 +1,6 @@
 // A list of families: the gain table is filled, and a state is moved, as if each of their requirements were visited.
+#![tactic(auto)]
+
 mod marks;
 
 ghost use Rattle.std.specs.Prelude.{◌≡◌, ◌+◌, ◌-◌, ◌*◌, ◌%◌, ◌^◌};

@@ -1,4 +1,6 @@
 // A family of requirements, which have all their members but one in common: its halves, and what a move changes of it in the gain table.
+#![tactic(auto)]
+
 ghost use Rattle.std.specs.Prelude.{◌≡◌, true, ◌||◌, not, cond, eqb, leb};
 ghost use Rattle.sets.specs.Sets.{size};
 ghost use Rattle.move_halves.specs.Halves.{signed, side, worth, halved, near_at, swayed, looks_by, looks_of};

@@ -1,4 +1,6 @@
 // The live pairs, from the bits built so far: the gain table is filled with them, and a state is moved.
+#![tactic(auto)]
+
 ghost use Rattle.std.specs.Prelude.{◌≡◌, ◌+◌, ◌-◌, ◌%◌, ◌^◌};
 ghost use Rattle.sets.specs.Sets.{size};
 ghost use Rattle.move_table.specs.Moves.{filled};

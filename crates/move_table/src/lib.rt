@@ -1,4 +1,6 @@
 // The gain table: each state's gain as a level, put up and down; specs/ has what a list of requirements adds to it, and what a move changes.
+#![tactic(auto)]
+
 ghost use Rattle.std.specs.Prelude.{◌≡◌, ◌+◌, ◌%◌, ◌^◌, set, get_or};
 ghost use Rattle.move_table.specs.Table.{raised};
 

@@ -1,4 +1,6 @@
 // What the reader of a whole text answers where it is refused, which of two verdicts comes first, and what was read when its rows have been looked at.
+#![tactic(auto)]
+
 ghost use Rattle.std.specs.Prelude.{◌≡◌};
 ghost use Rattle.rules.specs.Listing.{blank, refused, or_else, checked};
 ghost use Rattle.read_answers.specs.Refused.{is_refused};

@@ -1,4 +1,6 @@
 // The scan for two rows that clash.
+#![tactic(auto)]
+
 ghost use Rattle.std.specs.Prelude.{◌≡◌, take};
 ghost use Rattle.rules.specs.Listing.{clash, conflict};
 

@@ -1,4 +1,6 @@
 // Readers of one field: its characters, the set it stands for, its number. Each takes the field's bytes, whatever they are.
+#![tactic(auto)]
+
 ghost use Rattle.std.specs.Prelude.{◌≡◌, ◌&&◌, ◌||◌, leb, eqb};
 ghost use Rattle.rules.specs.Text.{nought, nine, digit, numeral_of};
 ghost use Rattle.read_fields.specs.Fields.{number_shaped, places_of, places_in, pattern_in};

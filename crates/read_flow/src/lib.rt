@@ -1,4 +1,6 @@
 // The reader of a flow table, from the line behind its head on: any bytes give the dichotomies of its columns, or the refusal and its line.
+#![tactic(auto)]
+
 mod asks;
 mod line;
 mod says;

@@ -1,4 +1,6 @@
 // `MC n i o w`, or the same behind `MO`, and behind it 0 or 1: the head, read from the line's bytes without its LF.
+#![tactic(auto)]
+
 ghost use Rattle.std.specs.Prelude.{◌≡◌, ◌&&◌, leb, length};
 ghost use Rattle.rules.specs.Text.{fields_of, field_at, numeral_of};
 ghost use Rattle.rules.specs.Lines.{head_numbers, head_numerals, fifth_of, head_line};

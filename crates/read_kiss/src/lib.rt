@@ -1,4 +1,6 @@
 // The reader of a KISS2 text: any bytes give the listing that they say and the names of its states, or the refusal and its line.
+#![tactic(auto)]
+
 mod ending;
 mod says;
 

@@ -1,4 +1,6 @@
 // What a row does to what the lines of a KISS2 text have said so far: its states are numbered, and it joins a row that is there or is a new one.
+#![tactic(auto)]
+
 mod joining;
 mod states;
 

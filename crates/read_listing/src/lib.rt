@@ -1,4 +1,6 @@
 // The reader of a whole listing: any bytes give the listing that they say, or the refusal and its line.
+#![tactic(auto)]
+
 mod says;
 
 ghost use Rattle.std.specs.Prelude.{◌≡◌, cond, ◌<◌};

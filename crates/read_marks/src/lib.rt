@@ -1,4 +1,6 @@
 // The mark that leads a line, its whole first field compared with seven fixed strings, and the end line, which is its mark alone. A line comes without its LF.
+#![tactic(auto)]
+
 ghost use Rattle.std.specs.Prelude.{◌≡◌};
 ghost use Rattle.rules.specs.Text.{same, mark_of, mark_is};
 ghost use Rattle.rules.specs.Lines.{end_line};

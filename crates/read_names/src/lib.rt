@@ -1,4 +1,6 @@
 // The names of a KISS2 text's states: kept as places in the text, compared, and found.
+#![tactic(auto)]
+
 ghost use Rattle.std.specs.Prelude.{◌≡◌};
 ghost use Rattle.rules.specs.Text.{same};
 ghost use Rattle.rules.specs.Kiss.{number_of};

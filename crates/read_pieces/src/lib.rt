@@ -1,4 +1,6 @@
 // Pieces of bytes: a line in a listing, a field in a line. One splitter finds the end of either.
+#![tactic(auto)]
+
 ghost use Rattle.std.specs.Prelude.{◌≡◌, ◌+◌, length, take, drop};
 ghost use Rattle.rules.specs.Text.{fields_of, field_at};
 ghost use Rattle.read_pieces.specs.Pieces.{end_of, stands_at};

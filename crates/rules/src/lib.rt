@@ -1,4 +1,6 @@
 // The things that documents 01 and 02 name: states, requirements, rows, listings, refusals. Their rules stand in specs/.
+#![tactic(auto)]
+
 ghost use Rattle.std.specs.Prelude.{◌≡◌};
 ghost use Rattle.rules.specs.Refusals.{number};
 ghost use Rattle.rules.specs.Requirements.{is_by};

@@ -1,5 +1,7 @@
 // The encoded machine: the lines of a cover as masks, and the next code that those of them give that fire at an input vector and a code. Digit k of a code
 // is that of bit k.
+#![tactic(auto)]
+
 ghost use Rattle.std.specs.Prelude.{◌≡◌, ◌≤◌, ◌<◌, length, take};
 ghost use Rattle.rules.specs.Limits.{most_bits, most_lines};
 ghost use Rattle.rules.specs.Listing.{all_rows};

@@ -1,4 +1,6 @@
 // Whether an input vector is one of those that a row's input takes.
+#![tactic(auto)]
+
 ghost use Rattle.std.specs.Prelude.{◌≡◌};
 ghost use Rattle.run_inputs.specs.Inputs.{takes_input};
 

@@ -1,4 +1,6 @@
 // The readers of the lines of a recorded run: `SS state` and `IN vector`. Each takes the line's bytes without its LF.
+#![tactic(auto)]
+
 ghost use Rattle.std.specs.Prelude.{◌≡◌};
 ghost use Rattle.rules.specs.Replay.{marked, start_line, vector_line};
 ghost use Rattle.read_marks.specs.Marks.{two_of};

@@ -1,4 +1,6 @@
 // The line of a step of a replay, added to a part: `ST state code outputs`. Its mark is a fixed byte string.
+#![tactic(auto)]
+
 ghost use Rattle.std.specs.Prelude.{◌≡◌, ◌≤◌};
 ghost use Rattle.rules.specs.Limits.{most_bits, most_outputs};
 ghost use Rattle.rules.specs.Report.{code_text};

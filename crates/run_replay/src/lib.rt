@@ -1,5 +1,7 @@
 // A recorded run, replayed line by line, whole or a piece at a time: the symbolic machine and the encoded one are stepped side by side, each on its own,
 // and the lines that they give are added to a part.
+#![tactic(auto)]
+
 ghost use Rattle.std.specs.Prelude.{◌≡◌};
 ghost use Rattle.rules.specs.Text.{lines_of};
 ghost use Rattle.run_replay.specs.Moves.{machines_of, start_reason, vector_reason, moved_by};

@@ -1,4 +1,6 @@
 // The symbolic machine: what the rows of a listing say that fire at an input vector and a state.
+#![tactic(auto)]
+
 ghost use Rattle.std.specs.Prelude.{◌≡◌, cond, eqb};
 ghost use Rattle.rules.specs.Listing.{all_rows};
 ghost use Rattle.rules.specs.Cover.{fires};

@@ -1,4 +1,6 @@
 // Sets of states as masks of 64 digits: state s is a member where digit s is 1.
+#![tactic(auto)]
+
 ghost use Rattle.std.specs.Prelude.{◌≡◌, min, ◌<◌, ◌≤◌, eqb, leb};
 ghost use Rattle.std.specs.Int.Count.{count_trailing_zeros};
 ghost use Rattle.sets.specs.Sets.{has, flip, everyone, size, without_lowest};

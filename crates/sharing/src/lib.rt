@@ -1,4 +1,6 @@
 // Whether two rows of a listing can fire together: they share an input vector and a state.
+#![tactic(auto)]
+
 ghost use Rattle.std.specs.Prelude.{◌≡◌};
 ghost use Rattle.rules.specs.Listing.{share_input, meets};
 

@@ -1,4 +1,6 @@
 // The library for a C host: a listing's bytes and an output buffer in, and the length of the text, or minus (number × 100,000 + line), out.
+#![tactic(auto)]
+
 mod checks;
 mod numbers;
 mod records;

@@ -1,4 +1,6 @@
 // The cover, line by line: its counts, a line for each row, and its end. Marks are fixed byte strings.
+#![tactic(auto)]
+
 ghost use Rattle.std.specs.Prelude.{◌≡◌, ◌≤◌, length, take};
 ghost use Rattle.rules.specs.Limits.{most_bits};
 ghost use Rattle.rules.specs.Listing.{all_rows};

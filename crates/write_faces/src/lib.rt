@@ -1,4 +1,6 @@
 // A row of the cover: its input, the face of its group, the code of its next state, its outputs.
+#![tactic(auto)]
+
 ghost use Rattle.std.specs.Prelude.{◌≡◌};
 ghost use Rattle.std.specs.Int.Bits.{bit_and};
 ghost use Rattle.sets.specs.Sets.{everyone};

@@ -1,4 +1,6 @@
 // The text of a listing of rows alone, line by line: its head, a line for each row, and its end. Marks are fixed byte strings.
+#![tactic(auto)]
+
 ghost use Rattle.std.specs.Prelude.{◌≡◌};
 ghost use Rattle.rules.specs.Listing.{rows_of};
 ghost use Rattle.write_pen.specs.Pen.{Wrote};

@@ -1,4 +1,6 @@
 // The names of states as a text: `NM state name` for each state, ascending, and the end. Marks are fixed byte strings.
+#![tactic(auto)]
+
 ghost use Rattle.std.specs.Prelude.{◌≡◌};
 ghost use Rattle.rules.specs.Report.{joined_lines};
 ghost use Rattle.rules.specs.NamesText.{name_line, name_lines_from, names_text};

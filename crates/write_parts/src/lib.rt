@@ -1,5 +1,7 @@
 // A part of a text, line by line: what is given already is passed over, whole lines are put into a lent buffer while they fit, and from the first one on
 // that does not, nothing is.
+#![tactic(auto)]
+
 ghost use Rattle.std.specs.Prelude.{◌≡◌};
 ghost use Rattle.write_parts.specs.Parts.{begun, fits, open_for, added};
 

@@ -1,5 +1,7 @@
 // Writers: each writes a text into a lent buffer from `at` on, and answers the place behind it. What falls behind the buffer's end is lost,
 // so a run on a small buffer tells the length. A place past the last that a number can say is the last one.
+#![tactic(auto)]
+
 ghost use Rattle.std.specs.Prelude.{◌≡◌, [], ◌∷◌, ◌++◌, ◌+◌, min};
 ghost use Rattle.sets.specs.Sets.{has};
 ghost use Rattle.rules.specs.Text.{nought, decimal};

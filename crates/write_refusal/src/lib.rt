@@ -1,4 +1,6 @@
 // `NO number line`, the line of a refusal, in a buffer or added to a part.
+#![tactic(auto)]
+
 ghost use Rattle.std.specs.Prelude.{◌≡◌};
 ghost use Rattle.rules.specs.Answers.{refuses, printed};
 ghost use Rattle.write_pen.specs.Pen.{Wrote};

@@ -1,4 +1,6 @@
 // The report, line by line: its counts, a line for each state, one for each requirement that is met, one for each that is not, and its end.
+#![tactic(auto)]
+
 mod entries;
 
 ghost use Rattle.std.specs.Prelude.{◌≡◌, not, ◌≤◌, length};

@@ -1,4 +1,6 @@
 // The rows of a cover: those of a listing and those that the states of a Moore machine add, which of them have a line, and which dashes a row keeps.
+#![tactic(auto)]
+
 ghost use Rattle.std.specs.Prelude.{◌≡◌, cond, [], ◌∷◌, length};
 ghost use Rattle.std.specs.Int.Bits.{bit_or};
 ghost use Rattle.rules.specs.Listing.{all_rows, meets};

@@ -1,5 +1,7 @@
 // What can be written of a listing and its code: the report, the cover, what each width buys, or the listing itself, as lines; and whether it is to be had.
 // Each writer is called in one place.
+#![tactic(auto)]
+
 ghost use Rattle.std.specs.Prelude.{◌≡◌};
 ghost use Rattle.write_parts.specs.Parts.{added_all};
 ghost use Rattle.write_texts.specs.Texts.{cover_verdict, verdict_of, text_lines};

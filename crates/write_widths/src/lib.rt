@@ -1,4 +1,6 @@
 // What each width buys, line by line, from one code: a line for each width from 1 to that of the code, and the end.
+#![tactic(auto)]
+
 ghost use Rattle.std.specs.Prelude.{◌≡◌, ◌≤◌, length, take};
 ghost use Rattle.rules.specs.Code.{unmet_from};
 ghost use Rattle.rules.specs.Widths.{width_line};
