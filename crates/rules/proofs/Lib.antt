@@ -50,6 +50,7 @@ pub mod LeastReplies
 pub mod Parts
 pub mod Wider
 pub mod WiderReports
+pub mod WiderListings
 pub mod Good
 pub mod Gains
 pub mod Built

@@ -1,20 +1,17 @@
 -- 02, request 12, of the reports' texts: each code of the narrower report leads the wider one's, its `BY` lines stand there too, and the wider one's `UN`
 -- lines stand in it.
-use mathlib.Core.Path.{◌≡◌, subst}
+use mathlib.Core.Path.{◌≡◌}
 use mathlib.Core.List.{List}
-use Prim.Native.Nat.{ℕ, ◌≤◌, ◌<◌}
+use Prim.Native.Nat.{ℕ, ◌<◌}
 use lib.ListN.{take, get_or}
-use Rattle.rules.specs.Listing.{no_requirement, reading}
-use Rattle.rules.specs.Requirements.{requirements}
+use Rattle.rules.specs.Listing.{no_requirement}
 use Rattle.rules.specs.Code.{code_of}
 use Rattle.rules.specs.Report.{state_line}
-use Rattle.rules.specs.Answers.{says, report_reply}
-use Rattle.rules.specs.declared.Listing.{Listing}
 use Rattle.rules.specs.declared.Requirement.{Requirement}
 use Rattle.rules.proofs.Ended.{HasLine}
-use Rattle.rules.proofs.Reported.{by_text, un_text, Tells, reported}
+use Rattle.rules.proofs.Reported.{by_text, un_text, Tells}
 use Rattle.rules.proofs.Unmet.{unmet-listed}
-use Rattle.rules.proofs.Wider.{Alike, Wider, same-states, same_asked, wider}
+use Rattle.rules.proofs.Wider.{Wider}
 
 -- of n states and codes whose bits are these, the first of width w
 pub record WiderText (w n : ℕ) (bits wideBits narrow wide : List ℕ) : Type 0 where
@@ -24,7 +21,7 @@ pub record WiderText (w n : ℕ) (bits wideBits narrow wide : List ℕ) : Type 0
   pub by-stays : (r k : ℕ) → HasLine narrow (by_text r k) → HasLine wide (by_text r k)
   pub un-among : (r : ℕ) → HasLine wide (un_text r) → HasLine narrow (un_text r)
 
-told : (w n : ℕ) (rs : List Requirement) (bits wideBits narrow wide : List ℕ) → Wider w n rs bits wideBits → Tells n bits rs narrow → Tells n wideBits rs wide → WiderText w n bits wideBits narrow wide
+pub told : (w n : ℕ) (rs : List Requirement) (bits wideBits narrow wide : List ℕ) → Wider w n rs bits wideBits → Tells n bits rs narrow → Tells n wideBits rs wide → WiderText w n bits wideBits narrow wide
 told w n rs bits wideBits narrow wide k a b = record {
   narrow-state = a.states;
   wide-state = b.states;
@@ -32,22 +29,3 @@ told w n rs bits wideBits narrow wide k a b = record {
   by-stays = λ r j h. let f = (a.by r j).0 h in (b.by r j).1 (f.0, k.kept (get_or rs r no_requirement) j f.1);
   un-among = λ r h. (a.un r).1 ((unmet-listed n bits rs r).0 (k.among r ((unmet-listed n wideBits rs r).1 ((b.un r).0 h))));
 }
-
--- the reports of any two listings that differ in the width alone, both widths 1 or more, the narrower not above the wider
-pub wider-reports : (s z narrow wide : List ℕ) → report_reply s ≡ says narrow → report_reply z ≡ says wide
-    → let t : Listing = (reading s).listing in
-    let u : Listing = (reading z).listing in
-    Alike t u → 1 ≤ t.head.width → t.head.width ≤ u.head.width
-    → (bits : List ℕ) × (wideBits : List ℕ) × WiderText t.head.width t.head.states bits wideBits narrow wide
-wider-reports s z narrow wide e f a h q =
-    let t : Listing = (reading s).listing in
-    let u : Listing = (reading z).listing in
-    let p = reported s narrow e in
-    let r = reported z wide f in
-    let d : List ℕ = r.code.bits in
-    let same : Tells t.head.states d (requirements t) wide =
-    subst (λ (n : ℕ). Tells n d (requirements t) wide) (same-states t u a) (subst (λ (rs : List Requirement). Tells u.head.states d rs wide) (same_asked t u a) r.tells) in (
-      p.code.bits,
-      d,
-      told t.head.width t.head.states (requirements t) p.code.bits d narrow wide (wider t u a h q p.code r.code p.built r.built) p.tells same,
-    )
