@@ -10,7 +10,7 @@ use Rattle.rules.specs.Listing.{all_rows}
 use Rattle.rules.proofs.Printed.{printed-few}
 use Rattle.write_rows.proofs.LeftOut.{count-here, count_none}
 use Rattle.write_rows.proofs.Counted.{state-few, all-few, all-long, row-given, row-none}
-use Rattle.write_rows.proofs.printed_count.Goals.{After-line_count-count, Start}
+use Rattle.write_rows.proofs.printed_count.Goals.{After-row_at-row, Start}
 use Rattle.write_rows.proofs.printed_count.Goals as goal
 
 -- the lengths of the tables
@@ -21,11 +21,11 @@ said-long : (c : Start) → length c.args.t.said ≡ most_states
 said-long c = search rules
 
 -- the row of this turn is the next of all
-here : (c : After-line_count-count)
+here : (c : After-row_at-row)
     → let t = c.args.t in
     drop c.loop-k.k (all_rows t) ≡ c.row_at-row.result ∷ drop (c.loop-k.k + 1) (all_rows t)
 here c =
-    row-given c.args.t (table-long c.before.before.before.before.before.before.before.before.before.before.before.before.before.before) (said-long c.before.before.before.before.before.before.before.before.before.before.before.before.before.before) c.least-n.ensures c.row_count-all.ensures c.loop-k.k (omega arith)
+    row-given c.args.t (table-long c.before.before.before.before.before.before.before.before.before.before.before.before) (said-long c.before.before.before.before.before.before.before.before.before.before.before.before) c.least-n.ensures c.row_count-all.ensures c.loop-k.k (omega arith)
     c.least-place.ensures c.state_at-state.ensures c.row_at-row.ensures
 
 pub offset_bounds-t-state : goal.offset_bounds-t-state
@@ -39,14 +39,14 @@ overflow_add-count c =
     let a = c.args in
     let few = all-few a.t (table-long (goal.at.overflow_add-count c).Start) (said-long (goal.at.overflow_add-count c).Start) c.least-n.ensures c.row_count-all.ensures in
     let long = all-long a.t (table-long (goal.at.overflow_add-count c).Start) (said-long (goal.at.overflow_add-count c).Start) c.least-n.ensures c.row_count-all.ensures in
-    let here = count-here a.t.head a.bits.now _ _ _ (here c) in
-    record { fits = omega (arith, here, few, long, c.least-n.ensures, c.line_count-count.ensures, c.loop-k.invariant.1, printed-few a.t.head a.bits.now (all_rows a.t)) }
+    let here = count-here a.t.head a.bits.now _ _ _ (here (goal.at.overflow_add-count c).After-row_at-row) in
+    record { fits = omega (arith, here, few, long, c.least-n.ensures, c.loop-k.invariant.1, printed-few a.t.head a.bits.now (all_rows a.t)) }
 
 pub loop-k-preserved : goal.loop-k-preserved
 loop-k-preserved c =
     let a = c.args in
-    let here = count-here a.t.head a.bits.now _ _ _ (here c) in
-    (omega arith, omega (arith, here, c.line_count-count.ensures, c.loop-k.invariant.1))
+    let here = count-here a.t.head a.bits.now _ _ _ (here (goal.at.loop-k-preserved c).After-row_at-row) in
+    (omega arith, omega (arith, here, c.loop-k.invariant.1))
 
 pub returns : goal.returns
 returns c =
