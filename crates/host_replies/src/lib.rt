@@ -5,8 +5,10 @@
 pub mod plans;
 
 ghost use Rattle.std.specs.Prelude.{◌≡◌, ◌≤◌, ltb, length};
+ghost use Rattle.rules.specs.Kiss.{kiss_reading};
 ghost use Rattle.rules.specs.Report.{joined_lines};
 ghost use Rattle.rules.specs.declared.Verdict.{Verdict};
+ghost use Rattle.read_answers.specs.Lent.{reading_with};
 ghost use Rattle.code_encoding.specs.Encode.{no_encoding};
 ghost use Rattle.write_parts.specs.Parts.{added_all};
 ghost use Rattle.write_texts.specs.Texts.{text_lines};
@@ -38,14 +40,37 @@ pub struct Ready {
     pub encoding: Encoding,
 }
 
-// Any bytes, read as a text of that form. Each reader is called in one place.
+// A KISS2 text, read into a listing that is lent. It keeps a frame of its own, which is left before the next step: inlined, its drafts would stand in the frame of
+// every call on a listing.
+#[inline(never)]
+fn read_kiss_lent(bytes: &[u8], t: &mut Listing) -> Verdict
+    ensures { reading_with result t.new ≡ kiss_reading bytes.now }
+{
+    let read = read_kiss::read_kiss(bytes);
+    *t = read.listing;
+    read.verdict
+}
+
+// Any bytes, read as a text of that form into a listing that is lent: the verdict, and there the listing. Each reader is called in one place.
+fn read_lent(form: Form, bytes: &[u8], t: &mut Listing) -> Verdict
+    ensures { reading_with result t.new ≡ reading_as form bytes.now }
+{
+    if plans::is_kiss(form) {
+        return read_kiss_lent(bytes, t);
+    }
+    read_listing::read_lent(plans::is_small(form), bytes, t)
+}
+
+// The same as one value.
 pub fn read_as(form: Form, bytes: &[u8]) -> Reading
     ensures { result ≡ reading_as form bytes.now }
 {
-    if plans::is_kiss(form) {
-        return read_kiss::read_kiss(bytes);
+    let mut t = read_answers::blank_listing();
+    let verdict = read_lent(form, bytes, &mut t);
+    Reading {
+        verdict,
+        listing: t,
     }
-    read_listing::read_as(plans::is_small(form), bytes)
 }
 
 // No code, though nothing is refused.
@@ -74,7 +99,8 @@ fn encode_by(way: Way, t: Listing) -> Encoding
     }
 }
 
-// Whether a text is refused: the reader's refusal comes first, then the encoder's, and then, of a cover, 9.
+// Whether a text is refused: the reader's refusal comes first, then the encoder's, and then, of a cover, 9. The families that it draws have a frame of their own.
+#[inline(never)]
 fn verdict_on(text: Text, read: Verdict, t: Listing, e: Encoding) -> Verdict
     ensures { result ≡ verdict_on text read t e }
 {
@@ -141,7 +167,7 @@ fn is_longer(text: Text, t: Listing, e: Encoding, len: usize) -> bool
 }
 
 // What is said of any bytes. It reads and codes as `prepare` does, and holds what it has read but once: each step has a frame of its own, which is left before
-// the next.
+// the next, and what is read does not change any more once `t` has it, so that no call makes a copy of it.
 pub fn say(wanted: Wanted, bytes: &[u8], out: &mut [u8]) -> Said
     ensures { (result, out.new) ≡ saying (reply_to wanted bytes.now) out.old }
 {
@@ -149,19 +175,20 @@ pub fn say(wanted: Wanted, bytes: &[u8], out: &mut [u8]) -> Said
     let form = plan.0;
     let way = plan.1;
     let text = plan.2;
-    let mut read = read_as(form, bytes);
-    let said = read.verdict;
-    let width = plans::width_for(text, read.listing.head.width);
-    read.listing.head.width = width;
-    let e = encode_by(way, read.listing);
-    let verdict = verdict_on(text, said, read.listing, e);
+    let mut read = read_answers::blank_listing();
+    let said = read_lent(form, bytes, &mut read);
+    let width = plans::width_for(text, read.head.width);
+    read.head.width = width;
+    let t = read;
+    let e = encode_by(way, t);
+    let verdict = verdict_on(text, said, t, e);
     match verdict {
         Verdict::Refused(r, line) => Said::Refused(r, line),
         Verdict::Accepted => {
-            if is_longer(text, read.listing, e, out.len()) {
+            if is_longer(text, t, e, out.len()) {
                 return Said::Refused(rules::Refusal::NoRoom, 0);
             }
-            let written = write_texts::add_lines(text, read.listing, e, write_parts::begin(0), out);
+            let written = write_texts::add_lines(text, t, e, write_parts::begin(0), out);
             Said::Text(written.given)
         }
     }
@@ -194,22 +221,17 @@ pub fn say_part(wanted: Wanted, bytes: &[u8], from: usize, out: &mut [u8]) -> Sa
     let form = plan.0;
     let way = plan.1;
     let text = plan.2;
-    let mut read = read_as(form, bytes);
-    let said = read.verdict;
-    let width = plans::width_for(text, read.listing.head.width);
-    read.listing.head.width = width;
-    let e = encode_by(way, read.listing);
-    let verdict = verdict_on(text, said, read.listing, e);
+    let mut read = read_answers::blank_listing();
+    let said = read_lent(form, bytes, &mut read);
+    let width = plans::width_for(text, read.head.width);
+    read.head.width = width;
+    let t = read;
+    let e = encode_by(way, t);
+    let verdict = verdict_on(text, said, t, e);
     match verdict {
         Verdict::Refused(r, line) => Said::Refused(r, line),
         Verdict::Accepted => {
-            let written = write_texts::add_lines(
-                text,
-                read.listing,
-                e,
-                write_parts::begin(from),
-                out,
-            );
+            let written = write_texts::add_lines(text, t, e, write_parts::begin(from), out);
             if written.given == 0 {
                 if written.full {
                     return Said::Refused(rules::Refusal::NoRoom, 0);

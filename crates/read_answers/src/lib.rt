@@ -3,6 +3,7 @@
 
 ghost use Rattle.std.specs.Prelude.{◌≡◌};
 ghost use Rattle.rules.specs.Listing.{blank, refused, or_else, checked};
+ghost use Rattle.read_answers.specs.Lent.{reading_with};
 ghost use Rattle.read_answers.specs.Refused.{is_refused};
 
 use rules::{Head, Listing, Pattern, Reading, Refusal, Requirement, Row, Verdict};
@@ -75,20 +76,27 @@ fn is_refused(v: Verdict) -> bool
     }
 }
 
-// What was read, unless two of its rows clash. Where it is refused there is no listing: it is taken away here and nowhere before, because each place that did
-// would hold a listing on the stack.
-pub fn settle(r: Reading) -> Reading
-    ensures { result ≡ checked r }
+// The verdict on what was read, unless two of its rows clash. Where it is refused there is no listing: it is taken away here and nowhere before, because each
+// place that did would hold a listing on the stack.
+pub fn settle_lent(said: Verdict, t: &mut Listing) -> Verdict
+    ensures { reading_with result t.new ≡ checked (reading_with said t.old) }
 {
-    let said = r.verdict;
-    let mut t = r.listing;
     let table = t.table;
     let clash = read_conflict::first_clash(t.rows, table);
     let verdict = or_else(said, clash);
     if is_refused(verdict) {
         let none = blank_listing();
-        t = none;
+        *t = none;
     }
+    verdict
+}
+
+// The same of a reading as one value.
+pub fn settle(r: Reading) -> Reading
+    ensures { result ≡ checked r }
+{
+    let mut t = r.listing;
+    let verdict = settle_lent(r.verdict, &mut t);
     Reading {
         verdict,
         listing: t,

@@ -15,10 +15,10 @@ use Rattle.rules.specs.declared.Head.{Head}
 use Rattle.rules.specs.declared.Listing.{Listing}
 use Rattle.rules.specs.declared.Refusal.TheVariants.{BadLine, Place, NoOutputs}
 use Rattle.rules.specs.declared.Verdict.{Verdict}
+use Rattle.read_answers.specs.Lent.{reading_with}
 use Rattle.read_pieces.proofs.Laws.{part}
 use Rattle.read_pieces.proofs.Nothing.{none-behind, some-behind}
 use Rattle.read_listing.specs.Says.{outputs_verdict, end_verdict}
-use Rattle.read_listing.proofs.Whole.{made}
 
 -- ---- behind `EN`: 3, then 17
 
@@ -35,22 +35,22 @@ unfolding outputs_verdict
 verdict-by k h given e = rw e
 
 -- the listing as it stands then, with that verdict
-pub ended-checked : (k : ℕ) (t : Listing) (rest : List (List ℕ)) → checked (made (end_verdict k t.head t.given rest) t) ≡ checked (ended k t rest)
+pub ended-checked : (k : ℕ) (t : Listing) (rest : List (List ℕ)) → checked (reading_with (end_verdict k t.head t.given rest) t) ≡ checked (ended k t rest)
 unfolding end_verdict outputs_verdict ended refused conflict
 ended-checked k t rest = go (nothing rest) (complete t.head t.given)
   where
     go : (b c : Bool)
-        → checked (made (cond b (cond c Verdict.Accepted (Verdict.Refused NoOutputs k)) (Verdict.Refused Place (k + 1))) t)
+        → checked (reading_with (cond b (cond c Verdict.Accepted (Verdict.Refused NoOutputs k)) (Verdict.Refused Place (k + 1))) t)
         ≡ checked (cond b (cond c (accepted t) (refused NoOutputs k)) (refused Place (k + 1)))
     go true true = refl
     go true false = refl
     go false c = refl
 
 -- the bytes from a on
-pub end-at : (k : ℕ) (t : Listing) (s : List ℕ) (a : ℕ) {v : Verdict} → v ≡ end_verdict k t.head t.given (lines_of (part s a (length s))) → checked (made v t) ≡ checked (ended k t (lines_of (drop a s)))
+pub end-at : (k : ℕ) (t : Listing) (s : List ℕ) (a : ℕ) {v : Verdict} → v ≡ end_verdict k t.head t.given (lines_of (part s a (length s))) → checked (reading_with v t) ≡ checked (ended k t (lines_of (drop a s)))
 end-at k t s a e =
     let n : length (drop a s) ≤ length s - a = omega (arith, length-drop a s) in
-    ap (λ (v : Verdict). checked (made v t)) (e ∙ ap (λ (l : List ℕ). end_verdict k t.head t.given (lines_of l)) (take_all (length s - a) (drop a s) n))
+    ap (λ (v : Verdict). checked (reading_with v t)) (e ∙ ap (λ (l : List ℕ). end_verdict k t.head t.given (lines_of l)) (take_all (length s - a) (drop a s) n))
     ∙ ended-checked k t (lines_of (drop a s))
 
 -- ---- a state without outputs
@@ -91,11 +91,11 @@ module _ (k : ℕ) (h : Head) (given : ℕ) where
       go false = refl
 
   -- it is refused either way, and the listing is of no account
-  pub unended-checked : (t : Listing) (l : List ℕ) {v : Verdict} → v ≡ (unended k h given l).verdict → checked (made v t) ≡ checked (unended k h given l)
+  pub unended-checked : (t : Listing) (l : List ℕ) {v : Verdict} → v ≡ (unended k h given l).verdict → checked (reading_with v t) ≡ checked (unended k h given l)
   unfolding unended refused conflict
-  unended-checked t [] e = ap (λ (v : Verdict). checked (made v t)) e
-  unended-checked t (x ∷ xs) e = ap (λ (v : Verdict). checked (made v t)) e ∙ go (placed (mark_is (mark_of (x ∷ xs))) k h given (x ∷ xs))
+  unended-checked t [] e = ap (λ (v : Verdict). checked (reading_with v t)) e
+  unended-checked t (x ∷ xs) e = ap (λ (v : Verdict). checked (reading_with v t)) e ∙ go (placed (mark_is (mark_of (x ∷ xs))) k h given (x ∷ xs))
     where
-      go : (b : Bool) → checked (made (cond b (refused BadLine k) (refused Place k)).verdict t) ≡ checked (cond b (refused BadLine k) (refused Place k))
+      go : (b : Bool) → checked (reading_with (cond b (refused BadLine k) (refused Place k)).verdict t) ≡ checked (cond b (refused BadLine k) (refused Place k))
       go true = refl
       go false = refl

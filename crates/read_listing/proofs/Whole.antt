@@ -6,11 +6,9 @@ use Rattle.rules.specs.declared.Listing.{Listing}
 use Rattle.rules.specs.declared.Reading.{Reading}
 use Rattle.rules.specs.declared.Refusal.{Refusal}
 use Rattle.rules.specs.declared.Verdict.{Verdict}
-
-abbrev pub made : Verdict → Listing → Reading
-made v t = record { verdict = v; listing = t }
+use Rattle.read_answers.specs.Lent.{reading_with}
 
 -- where it is refused, the listing is of no account
-pub refused-checked : (r : Refusal) (k : ℕ) (t : Listing) → checked (made (Verdict.Refused r k) t) ≡ checked (refused r k)
+pub refused-checked : (r : Refusal) (k : ℕ) (t : Listing) → checked (reading_with (Verdict.Refused r k) t) ≡ checked (refused r k)
 unfolding refused conflict
 refused-checked r k t = refl

@@ -8,11 +8,12 @@ ghost use Rattle.rules.specs.Text.{lines_of};
 ghost use Rattle.rules.specs.FlowLines.{flow_head};
 ghost use Rattle.rules.specs.Least.{begins_large, small_reading};
 ghost use Rattle.rules.specs.Listing.{blank, complete, unended, read_lines, read_all, checked, reading};
+ghost use Rattle.read_answers.specs.Lent.{reading_with};
 ghost use Rattle.read_listing.specs.Says.{outputs_verdict, end_verdict, reading_of, first_verdict};
 
-use read_answers::{blank_listing, refuse, settle};
+use read_answers::{blank_listing, settle_lent};
 use read_flow::Flow;
-use rules::{Head, HeadLine, Reading, Refusal, Verdict};
+use rules::{Head, HeadLine, Listing, Reading, Refusal, Verdict};
 use says::Said;
 
 // The head that says nothing.
@@ -80,11 +81,12 @@ fn break_verdict(k: usize, h: Head, given: u64, l: &[u8]) -> Verdict
     Verdict::Refused(Refusal::Place, k)
 }
 
-// The lines from the top, until one of them decides. The listing is handed out as it stands then, refused or not.
-fn read_lines(s: &[u8]) -> Reading
-    ensures { checked result ≡ checked (read_lines 1 blank (lines_of s.now)) }
+// The lines from the top, until one of them decides. The listing is lent, so that it lies where the caller's does and takes no stack of its own; it is left as
+// it stands then, refused or not.
+fn read_lines(s: &[u8], t: &mut Listing) -> Verdict
+    requires { t.old ≡ blank }
+    ensures { checked (reading_with result t.new) ≡ checked (read_lines 1 blank (lines_of s.now)) }
 {
-    let mut t = blank_listing();
     let mut k: usize = 1;
     let mut at: usize = 0;
     let mut end = read_pieces::cut(s, 0, b'\n');
@@ -92,18 +94,8 @@ fn read_lines(s: &[u8]) -> Reading
         let said = says::line_said(k, t.head, t.rows, t.dichotomies, t.given, &s[at..end]);
         at = end + 1;
         match said {
-            Said::Refused(r) => {
-                return Reading {
-                    verdict: Verdict::Refused(r, k),
-                    listing: t,
-                };
-            }
-            Said::End => {
-                return Reading {
-                    verdict: end_verdict(k, t.head, t.given, &s[at..]),
-                    listing: t,
-                };
-            }
+            Said::Refused(r) => return Verdict::Refused(r, k),
+            Said::End => return end_verdict(k, t.head, t.given, &s[at..]),
             Said::Head(h) => t.head = h,
             Said::Row(r) => {
                 let n = t.rows;
@@ -124,10 +116,7 @@ fn read_lines(s: &[u8]) -> Reading
         k += 1;
         end = read_pieces::cut(s, at, b'\n');
     }
-    Reading {
-        verdict: break_verdict(k, t.head, t.given, &s[at..]),
-        listing: t,
-    }
+    break_verdict(k, t.head, t.given, &s[at..])
 }
 
 // The head of a flow table, if lines l and m begin one.
@@ -144,33 +133,29 @@ fn flow_head(l: &[u8], m: &[u8]) -> HeadLine
 }
 
 // What was read of a flow table, under its head.
-fn flow_reading(h: Head, f: Flow) -> Reading
-    ensures { result ≡ reading_of h f }
+fn flow_reading(h: Head, f: Flow, t: &mut Listing) -> Verdict
+    requires { t.old ≡ blank }
+    ensures { reading_with result t.new ≡ reading_of h f }
 {
-    let verdict = f.verdict;
     let asked = f.asked;
-    let mut t = blank_listing();
     t.head = h;
     t.dichotomies = f.dichotomies;
     t.asked = asked;
-    Reading {
-        verdict,
-        listing: t,
-    }
+    f.verdict
 }
 
-// All lines: those of a flow table, or of an ordinary listing. Behind a line without LF stands nothing, which begins no flow table. `read_lines` is called in one
-// place: its listing then lies where its caller's does, and takes no stack of its own.
-fn read_all(s: &[u8]) -> Reading
-    ensures { checked result ≡ checked (read_all (lines_of s.now)) }
+// All lines: those of a flow table, or of an ordinary listing. Behind a line without LF stands nothing, which begins no flow table.
+fn read_all(s: &[u8], t: &mut Listing) -> Verdict
+    requires { t.old ≡ blank }
+    ensures { checked (reading_with result t.new) ≡ checked (read_all (lines_of s.now)) }
 {
     let end = read_pieces::cut(s, 0, b'\n');
     let at = sets::least(end + 1, s.len());
     let next = read_pieces::cut(s, at, b'\n');
     let head = flow_head(&s[0..end], &s[at..next]);
     match head {
-        HeadLine::Read(h) => flow_reading(h, read_flow::read_flow(h, &s[at..])),
-        HeadLine::Refused(_) => read_lines(s),
+        HeadLine::Read(h) => flow_reading(h, read_flow::read_flow(h, &s[at..]), t),
+        HeadLine::Refused(_) => read_lines(s, t),
     }
 }
 
@@ -203,14 +188,31 @@ fn first_verdict(small: bool, s: &[u8]) -> Verdict
     Verdict::Accepted
 }
 
-// Any bytes at all, read as the listing of a small machine, of which more states are a fault of line 1, or as any listing: the listing, or the refusal and its
-// line. It is one function, and not one for each, so that the reading is called in one place.
+// Any bytes at all, read as the listing of a small machine, of which more states are a fault of line 1, or as any listing, into a listing that is lent: the
+// verdict, and there the listing, which is blank where it is refused. It is one function, and not one for each, so that the reading is called in one place.
+pub fn read_lent(small: bool, bytes: &[u8], t: &mut Listing) -> Verdict
+    ensures { reading_with result t.new ≡ cond small (small_reading bytes.now) (reading bytes.now) }
+{
+    let none = blank_listing();
+    *t = none;
+    let first = first_verdict(small, bytes);
+    match first {
+        Verdict::Refused(r, line) => Verdict::Refused(r, line),
+        Verdict::Accepted => {
+            let said = read_all(bytes, t);
+            settle_lent(said, t)
+        }
+    }
+}
+
+// The same as one value: the listing, or the refusal and its line.
 pub fn read_as(small: bool, bytes: &[u8]) -> Reading
     ensures { result ≡ cond small (small_reading bytes.now) (reading bytes.now) }
 {
-    let first = first_verdict(small, bytes);
-    match first {
-        Verdict::Refused(r, line) => refuse(r, line),
-        Verdict::Accepted => settle(read_all(bytes)),
+    let mut t = blank_listing();
+    let verdict = read_lent(small, bytes, &mut t);
+    Reading {
+        verdict,
+        listing: t,
     }
 }

@@ -4,6 +4,7 @@ use mathlib.Core.List.{List}
 use Prim.Native.Nat.{ℕ}
 use Rattle.rules.specs.Answers.{Reply}
 use Rattle.rules.specs.Widths.{with_width}
+use Rattle.read_answers.specs.Lent.{reading_with}
 use Rattle.write_parts.specs.Parts.{begun, added_all}
 use Rattle.write_parts.specs.declared.Part.{Part}
 use Rattle.write_texts.specs.Texts.{text_lines}
@@ -20,13 +21,13 @@ use Rattle.host_replies.proofs.say.Goals as goal
 -- what the steps have given
 abbrev here : After-verdict_on-verdict → Ready
 here c =
-    record { text = c.plan_of-plan.result.2; verdict = c.verdict_on-verdict.result; listing = with_width c.width_for-width.result c.read_as-read.result.listing; encoding = c.encode_by-e.result }
+    record { text = c.plan_of-plan.result.2; verdict = c.verdict_on-verdict.result; listing = with_width c.width_for-width.result c.read_lent-said.new.t; encoding = c.encode_by-e.result }
 
 here-is : (c : After-verdict_on-verdict) → let a = c.args in here c ≡ ready a.wanted a.bytes.now
 here-is c =
     let a = c.args in
-    made a.wanted a.bytes.now c.plan_of-plan.result c.read_as-read.result c.width_for-width.result c.encode_by-e.result c.verdict_on-verdict.result
-    c.plan_of-plan.ensures c.read_as-read.ensures c.width_for-width.ensures c.encode_by-e.ensures c.verdict_on-verdict.ensures
+    made a.wanted a.bytes.now c.plan_of-plan.result (reading_with c.read_lent-said.result c.read_lent-said.new.t) c.width_for-width.result c.encode_by-e.result c.verdict_on-verdict.result
+    c.plan_of-plan.ensures c.read_lent-said.ensures c.width_for-width.ensures c.encode_by-e.ensures c.verdict_on-verdict.ensures
 
 here-few : (c : After-verdict_on-verdict) → Few (here c)
 here-few c =

@@ -4,6 +4,7 @@ use mathlib.Core.List.{List}
 use Prim.Native.Nat.{ℕ}
 use Rattle.rules.specs.Answers.{Reply}
 use Rattle.rules.specs.Widths.{with_width}
+use Rattle.read_answers.specs.Lent.{reading_with}
 use Rattle.write_parts.specs.Parts.{begun, added_all}
 use Rattle.write_parts.specs.declared.Part.{Part}
 use Rattle.write_parts.proofs.Adding.{Lent}
@@ -21,13 +22,13 @@ use Rattle.host_replies.proofs.say_part.Goals as goal
 -- what the steps have given
 abbrev here : After-verdict_on-verdict → Ready
 here c =
-    record { text = c.plan_of-plan.result.2; verdict = c.verdict_on-verdict.result; listing = with_width c.width_for-width.result c.read_as-read.result.listing; encoding = c.encode_by-e.result }
+    record { text = c.plan_of-plan.result.2; verdict = c.verdict_on-verdict.result; listing = with_width c.width_for-width.result c.read_lent-said.new.t; encoding = c.encode_by-e.result }
 
 here-is : (c : After-verdict_on-verdict) → let a = c.args in here c ≡ ready a.wanted a.bytes.now
 here-is c =
     let a = c.args in
-    made a.wanted a.bytes.now c.plan_of-plan.result c.read_as-read.result c.width_for-width.result c.encode_by-e.result c.verdict_on-verdict.result
-    c.plan_of-plan.ensures c.read_as-read.ensures c.width_for-width.ensures c.encode_by-e.ensures c.verdict_on-verdict.ensures
+    made a.wanted a.bytes.now c.plan_of-plan.result (reading_with c.read_lent-said.result c.read_lent-said.new.t) c.width_for-width.result c.encode_by-e.result c.verdict_on-verdict.result
+    c.plan_of-plan.ensures c.read_lent-said.ensures c.width_for-width.ensures c.encode_by-e.ensures c.verdict_on-verdict.ensures
 
 -- and so what is said of them
 here-said : (c : After-verdict_on-verdict) → let a = c.args in (out : List ℕ) → saying_part (reply_of (here c)) a.from out ≡ saying_part (reply_to a.wanted a.bytes.now) a.from out
@@ -38,7 +39,7 @@ here-said c out =
 -- the same, once the lines were added
 abbrev here-added : After-add_lines-written → Ready
 here-added c =
-    record { text = c.plan_of-plan.result.2; verdict = c.verdict_on-verdict.result; listing = with_width c.width_for-width.result c.read_as-read.result.listing; encoding = c.encode_by-e.result }
+    record { text = c.plan_of-plan.result.2; verdict = c.verdict_on-verdict.result; listing = with_width c.width_for-width.result c.read_lent-said.new.t; encoding = c.encode_by-e.result }
 
 -- the lines were added to a part that begins at the byte asked for
 added-from : (c : After-add_lines-written) → let a = c.args in ◌≡◌ {A = Lent} (c.add_lines-written.result, c.add_lines-written.new.out) (added_all (lines_of (here-added c)) (begun a.from, a.out.now))

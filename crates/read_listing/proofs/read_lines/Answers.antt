@@ -51,7 +51,7 @@ state-room c e =
 pub loop-end-init : goal.loop-end-init
 loop-end-init c =
     let s = c.args.s.now in
-    let b = c.blank_listing-t.ensures in
+    let b = c.requires in
     (cut_of _ _ 0 (omega arith) c.cut-end.ensures, search rules, ap (λ (t : Listing). read_lines 1 t (lines_of s)) b, blank-few b)
 
 pub returns-in-Refused : goal.returns-in-Refused
@@ -67,19 +67,19 @@ pub offset_bounds-t-n : goal.offset_bounds-t-n
 offset_bounds-t-n c = omega (arith, row_room c)
 
 pub bounds-t-n : goal.bounds-t-n
-bounds-t-n c = row_room c
+bounds-t-n c = row_room (goal.at.bounds-t-n c).In-Row
 
 pub overflow_add-t : goal.overflow_add-t
-overflow_add-t c = omega (arith, row_room c)
+overflow_add-t c = omega (arith, row_room (goal.at.overflow_add-t c).In-Row)
 
 pub offset_bounds-t-n-in-Dichotomy : goal.offset_bounds-t-n-in-Dichotomy
 offset_bounds-t-n-in-Dichotomy c = omega (arith, dichotomy-room c)
 
 pub bounds-t-n-in-Dichotomy : goal.bounds-t-n-in-Dichotomy
-bounds-t-n-in-Dichotomy c = dichotomy-room c
+bounds-t-n-in-Dichotomy c = dichotomy-room (goal.at.bounds-t-n-in-Dichotomy c).In-Dichotomy
 
 pub overflow_add-t-in-Dichotomy : goal.overflow_add-t-in-Dichotomy
-overflow_add-t-in-Dichotomy c = omega (arith, dichotomy-room c)
+overflow_add-t-in-Dichotomy c = omega (arith, dichotomy-room (goal.at.overflow_add-t-in-Dichotomy c).In-Dichotomy)
 
 pub offset_bounds-t-n-in-Outputs : goal.offset_bounds-t-n-in-Outputs
 offset_bounds-t-n-in-Outputs c = omega (arith, state-room (goal.at.offset_bounds-t-n-in-Outputs c).After-line_said-said c.in-Outputs.is)
