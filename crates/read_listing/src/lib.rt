@@ -84,9 +84,10 @@ fn break_verdict(k: usize, h: Head, given: u64, l: &[u8]) -> Verdict
 // The lines from the top, until one of them decides. The listing is lent, so that it lies where the caller's does and takes no stack of its own; it is left as
 // it stands then, refused or not.
 fn read_lines(s: &[u8], t: &mut Listing) -> Verdict
-    requires { t.old ≡ blank }
     ensures { checked (reading_with result t.new) ≡ checked (read_lines 1 blank (lines_of s.now)) }
 {
+    let none = blank_listing();
+    *t = none;
     let mut k: usize = 1;
     let mut at: usize = 0;
     let mut end = read_pieces::cut(s, 0, b'\n');
@@ -134,9 +135,10 @@ fn flow_head(l: &[u8], m: &[u8]) -> HeadLine
 
 // What was read of a flow table, under its head.
 fn flow_reading(h: Head, f: Flow, t: &mut Listing) -> Verdict
-    requires { t.old ≡ blank }
     ensures { reading_with result t.new ≡ reading_of h f }
 {
+    let none = blank_listing();
+    *t = none;
     let asked = f.asked;
     t.head = h;
     t.dichotomies = f.dichotomies;
@@ -146,7 +148,6 @@ fn flow_reading(h: Head, f: Flow, t: &mut Listing) -> Verdict
 
 // All lines: those of a flow table, or of an ordinary listing. Behind a line without LF stands nothing, which begins no flow table.
 fn read_all(s: &[u8], t: &mut Listing) -> Verdict
-    requires { t.old ≡ blank }
     ensures { checked (reading_with result t.new) ≡ checked (read_all (lines_of s.now)) }
 {
     let end = read_pieces::cut(s, 0, b'\n');
@@ -193,11 +194,13 @@ fn first_verdict(small: bool, s: &[u8]) -> Verdict
 pub fn read_lent(small: bool, bytes: &[u8], t: &mut Listing) -> Verdict
     ensures { reading_with result t.new ≡ cond small (small_reading bytes.now) (reading bytes.now) }
 {
-    let none = blank_listing();
-    *t = none;
     let first = first_verdict(small, bytes);
     match first {
-        Verdict::Refused(r, line) => Verdict::Refused(r, line),
+        Verdict::Refused(r, line) => {
+            let none = blank_listing();
+            *t = none;
+            Verdict::Refused(r, line)
+        }
         Verdict::Accepted => {
             let said = read_all(bytes, t);
             settle_lent(said, t)

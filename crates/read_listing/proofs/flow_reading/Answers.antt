@@ -13,4 +13,4 @@ returns c =
       verdict = a.f.verdict;
       listing = record { head = a.h; rows = t.rows; table = t.table; dichotomies = a.f.dichotomies; asked = a.f.asked; said = t.said; given = t.given };
     } in
-    ap made c.requires
+    ap made c.blank_listing-none.ensures

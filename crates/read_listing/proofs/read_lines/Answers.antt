@@ -51,7 +51,7 @@ state-room c e =
 pub loop-end-init : goal.loop-end-init
 loop-end-init c =
     let s = c.args.s.now in
-    let b = c.requires in
+    let b = c.blank_listing-none.ensures in
     (cut_of _ _ 0 (omega arith) c.cut-end.ensures, search rules, ap (λ (t : Listing). read_lines 1 t (lines_of s)) b, blank-few b)
 
 pub returns-in-Refused : goal.returns-in-Refused
