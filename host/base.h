@@ -1,4 +1,4 @@
-/* The types and the C library functions that the host programs use, declared here because the kit has no C headers. */
+/* The types and the C library functions that the host programs use, declared here, so that they need no header. */
 #ifndef BASE_H
 #define BASE_H
 

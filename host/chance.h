@@ -1,4 +1,5 @@
-/* A seeded source of numbers (splitmix64): the same seed gives the same numbers on every machine. */
+/* A seeded source of numbers (splitmix64): the same seed gives the same numbers on every machine. C leaves open which of two draws in one expression comes
+   first, and compilers differ: where it matters each stands in a statement of its own. */
 #ifndef CHANCE_H
 #define CHANCE_H
 

@@ -683,9 +683,11 @@ static struct span spoil_outputs(struct chance *chance, struct generated *listin
     case 1:
         insert(listing, field.at, "1", 1);
         break;
-    case 2:
-        listing->bytes[field.at + chance_below(chance, (unsigned)field.length)] = (uint8_t)"x2+.\t\r"[chance_below(chance, 6)];
+    case 2: {
+        uint8_t other = (uint8_t)"x2+.\t\r"[chance_below(chance, 6)];
+        listing->bytes[field.at + chance_below(chance, (unsigned)field.length)] = other;
         break;
+    }
     case 3:
         replace_word(listing, with_space, "");
         break;

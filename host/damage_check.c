@@ -231,7 +231,8 @@ static void other_state(struct chance *chance, struct check_text *text)
 static void longer_code(struct chance *chance, struct check_text *text)
 {
     struct span code = code_of(text, any_line(chance, text));
-    insert(text, code.at + chance_below(chance, (unsigned)code.length + 1), &"01"[chance_below(chance, 2)], 1);
+    size_t place = code.at + chance_below(chance, (unsigned)code.length + 1);
+    insert(text, place, &"01"[chance_below(chance, 2)], 1);
 }
 
 static void shorter_code(struct chance *chance, struct check_text *text)
@@ -261,8 +262,10 @@ static void long_codes(struct chance *chance, struct check_text *text)
 static void other_digit(struct chance *chance, struct check_text *text)
 {
     struct span code = code_of(text, any_line(chance, text));
-    if (code.length > 0)
-        text->bytes[code.at + chance_below(chance, (unsigned)code.length)] = (uint8_t)"2-xX. +\r"[chance_below(chance, 8)];
+    if (code.length > 0) {
+        uint8_t other = (uint8_t)"2-xX. +\r"[chance_below(chance, 8)];
+        text->bytes[code.at + chance_below(chance, (unsigned)code.length)] = other;
+    }
 }
 
 /* A dash among codes, or a digit among dashes, on one line or on the first. */
@@ -368,9 +371,11 @@ static void spoil_row(struct chance *chance, struct check_text *text)
     if (field.length == 0)
         return;
     switch (chance_below(chance, 7)) {
-    case 0:
-        text->bytes[field.at + chance_below(chance, (unsigned)field.length)] = (uint8_t)"2~xX.+*4"[chance_below(chance, 8)];
+    case 0: {
+        uint8_t other = (uint8_t)"2~xX.+*4"[chance_below(chance, 8)];
+        text->bytes[field.at + chance_below(chance, (unsigned)field.length)] = other;
         break;
+    }
     case 1:
         insert(text, field.at, &"01-"[chance_below(chance, 3)], 1);
         break;

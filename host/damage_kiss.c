@@ -309,7 +309,8 @@ static void unknown_mark(struct chance *chance, struct kiss_text *text)
 {
     static const char *const words[] = {".\n", ".x 1\n", ".ii 1\n", ".end\n", ".I 1\n", ".E\n", ".ilb a b\n", ".type fr\n",
                                         "..\n", ".start_kiss\n", ".i\t1\n", ".e\r\n", ".ee\n", ". i 1\n"};
-    insert_word(text, any_line(chance, text).at, any_word(chance, words, LENGTH_OF(words)));
+    size_t at = any_line(chance, text).at;
+    insert_word(text, at, any_word(chance, words, LENGTH_OF(words)));
 }
 
 /* ---- headers ---- */

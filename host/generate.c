@@ -433,8 +433,10 @@ static void draw_state_outputs(struct chance *chance, struct draft *draft, unsig
     if (!quiet)
         return;
     memset(outputs, '0', OUTPUTS);
-    if (chance_part(chance, 1, 3))
-        outputs[chance_below(chance, draft->outputs)] = "-1"[chance_below(chance, 2)];
+    if (chance_part(chance, 1, 3)) {
+        char other = "-1"[chance_below(chance, 2)];
+        outputs[chance_below(chance, draft->outputs)] = other;
+    }
 }
 
 /* In which order the states' lines stand: ascending, descending, or any. */

@@ -467,8 +467,10 @@ static void change_cover(struct chance *chance)
 
 static void change_code(struct chance *chance, struct second_code *code)
 {
-    if (code->bits > 0)
-        code->bit[chance_below(chance, code->bits)] ^= (uint64_t)1 << chance_below(chance, machine.states);
+    if (code->bits > 0) {
+        uint64_t state = (uint64_t)1 << chance_below(chance, machine.states);
+        code->bit[chance_below(chance, code->bits)] ^= state;
+    }
 }
 
 /* One to three changes, most often in the cover. A code that is changed before the cover is made has a cover that fits it. */

@@ -342,10 +342,12 @@ static void draw_draft(struct chance *chance, enum generate_least_family family,
         for (unsigned number = chance_from(chance, 4, draft->states == 4 ? 16 : 8); number > 0; number--)
             draw_dichotomy(chance, draft, 0);
         break;
-    case LEAST_HIDDEN:
-        draw_hidden(chance, draft, chance_from(chance, 1, draft->states > 5 ? 4 : 6), chance_below(chance, 18));
+    case LEAST_HIDDEN: {
+        unsigned width = chance_from(chance, 1, draft->states > 5 ? 4 : 6);
+        draw_hidden(chance, draft, width, chance_below(chance, 18));
         draw_rows(chance, draft, chance_below(chance, 2));
         break;
+    }
     case LEAST_EDGE:
         draw_edge(chance, draft);
         break;

@@ -508,9 +508,11 @@ static void spoil_line(struct chance *chance, struct run_text *run)
     case RUN_LINE_END:
         replace(run, end, 0, "\r");
         break;
-    case RUN_ANY_BYTE:
-        run->bytes[chance_below(chance, (unsigned)run->length)] = (uint8_t)chance_next(chance);
+    case RUN_ANY_BYTE: {
+        uint8_t other = (uint8_t)chance_next(chance);
+        run->bytes[chance_below(chance, (unsigned)run->length)] = other;
         break;
+    }
     default: /* RUN_CHARACTER, RUN_OVER_BAD */
         replace(run, vector, 1, characters[chance_below(chance, LENGTH_OF(characters))]);
     }

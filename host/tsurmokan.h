@@ -1,4 +1,4 @@
-/* Tsurmokan for C: link the archive that `rt staticlib tsurmokan` writes (x86-64). Every function is proved: whatever it is given, it
+/* Tsurmokan for C: link the archive that `rt lib` writes in crates/tsurmokan (x86-64). Every function is proved: whatever it is given, it
  * returns, touches nothing but what it is lent to write, and gives the one answer that the definitions in crates/rules/specs give. */
 #ifndef TSURMOKAN_H
 #define TSURMOKAN_H

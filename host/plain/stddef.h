@@ -1,2 +1,2 @@
-/* <stddef.h> for host/tsurmokan.h, which the tests include as a user does: the kit has no C headers. */
+/* <stddef.h> for host/tsurmokan.h, which the tests include as a user does, where a compiler has no C headers: give it -isystem host/plain. */
 #include "../base.h"
