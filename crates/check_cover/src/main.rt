@@ -11,7 +11,7 @@ use rules::{CodeTable, Listing, Verdict};
 use std::io::{self, Read, Write};
 use std::process::ExitCode;
 
-const USAGE: &str = "check_cover LISTING CODES COVER";
+const USAGE: &[u8] = b"check_cover LISTING CODES COVER";
 
 // Room for every line that is printed.
 const ROOM: usize = 32;

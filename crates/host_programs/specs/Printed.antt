@@ -1,5 +1,6 @@
 -- What a program prints of any bytes that it reads.
 use Rattle.std.specs.Prelude.{cond, List, ℕ, ltb, length}
+use Rattle.rules.specs.Limits.{most_bytes}
 use Rattle.rules.specs.Answers.{Reply, refuses, printed}
 use Rattle.rules.specs.KissAnswers.{kiss_names_reply}
 use Rattle.rules.specs.Parts.{gathered}
@@ -11,7 +12,7 @@ use Rattle.host_replies.specs.declared.plans.Wanted.{Wanted}
 
 -- the reply, or refused 2 at line 0 where there are more bytes than a listing can have
 abbrev pub unless_long : List ℕ → Reply → Reply
-unless_long s reply = cond (ltb 65536 (length s)) (refuses Limit 0) reply
+unless_long s reply = cond (ltb most_bytes (length s)) (refuses Limit 0) reply
 
 -- of a listing
 unfoldable pub answer_to : Wanted → List ℕ → List ℕ

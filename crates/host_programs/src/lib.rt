@@ -2,9 +2,10 @@
 // arguments name, in pieces. No buffer is larger than the largest listing.
 #![tactic(auto)]
 
-ghost use Rattle.std.specs.Prelude.{◌≡◌, ◌≤◌, ◌<◌, ◌^◌, ◌&&◌, leb, ltb, length, take, IfOk, IfSome, OnOk};
+ghost use Rattle.std.specs.Prelude.{◌≡◌, ◌≤◌, ◌<◌, ◌^◌, ◌&&◌, leb, ltb, length, take, IfOk, IfSome, OnOk, OnErr};
 ghost use Rattle.std.specs.Io.{StartsWith, appended_bytes};
 ghost use Rattle.std.specs.Io.KnownBytes.{Appends, Consumes, IsAtEnd};
+ghost use Rattle.rules.specs.Limits.{most_bytes};
 ghost use Rattle.rules.specs.Answers.{printed};
 ghost use Rattle.host_replies.specs.Ready.{reply_of};
 ghost use Rattle.host_programs.specs.Moving.{moved_count, moved_up};
@@ -28,10 +29,22 @@ fn reason_of(e: FillError) -> &'static str {
     }
 }
 
+// Tells why an argument cannot be had, behind what arguments there are to be.
+fn tell<R: Eprint>(rt: &R, usage: &[u8], reason: &str) {
+    match str::from_utf8(usage) {
+        Ok(words) => {
+            let _ = eprintln!(rt; "{words}: {reason}");
+        }
+        Err(_) => {
+            let _ = eprintln!(rt; "{reason}");
+        }
+    }
+}
+
 // The file of that name, opened for reading; none where it cannot be, which is told on standard error. A name is text.
-fn open_named<R: Files + Eprint>(rt: &R, name: &[u8], usage: &str) -> Option<R::File> {
+fn open_named<R: Files + Eprint>(rt: &R, name: &[u8], usage: &[u8]) -> Option<R::File> {
     let Ok(path) = str::from_utf8(name) else {
-        let _ = eprintln!(rt; "{usage}: the name of a file is not UTF-8");
+        tell(rt, usage, "the name of a file is not UTF-8");
         return None;
     };
     match fs::open(rt, path) {
@@ -44,25 +57,26 @@ fn open_named<R: Files + Eprint>(rt: &R, name: &[u8], usage: &str) -> Option<R::
 }
 
 // The file that an argument names, opened for reading; none where it cannot be, which is told on standard error: the file, or what arguments there are to be.
-pub fn open_argument<R: Env + Files + Eprint>(rt: &R, i: usize, usage: &str) -> Option<R::File> {
+pub fn open_argument<R: Env + Files + Eprint>(rt: &R, i: usize, usage: &[u8]) -> Option<R::File> {
     let mut name = [0u8; NAME_ROOM];
     match rt.arg(i, &mut name) {
         Ok(length) => open_named(rt, &name[..length], usage),
         Err(e) => {
-            let _ = eprintln!(rt; "{usage}: {}", reason_of(e));
+            tell(rt, usage, reason_of(e));
             None
         }
     }
 }
 
-// Reads behind the bytes that are held, until the buffer is full or the input ends: how many bytes it then has. A read that a signal interrupts counts as one
-// that failed.
+// Reads behind the bytes that are held, until the buffer is full or the input ends: how many bytes it then has. Where a read fails, which is the only error, the
+// bytes that were held stand as they did. A read that a signal interrupts counts as one that failed.
 pub fn fill<R: Read>(input: &mut R, bytes: &mut [u8], held: usize) -> io::Result<usize>
     ensures within { IfOk result (λ filled. filled ≤ length bytes.new) }
     ensures held { IfOk result (λ filled. StartsWith (take filled bytes.new) (take held bytes.old)) }
     ensures bytes { IfOk result (λ filled. Consumes (R.remaining input.old) (R.remaining input.new)
         (appended_bytes (take held bytes.old) (take filled bytes.new))) }
     ensures end { IfOk result (λ filled. filled < length bytes.new → IsAtEnd (R.remaining input.new)) }
+    ensures failed { OnErr result (StartsWith bytes.new (take held bytes.old)) }
 {
     let mut filled = sets::least(held, bytes.len());
     while filled < bytes.len() {
@@ -92,7 +106,7 @@ pub fn move_up(bytes: &mut [u8], from: usize, end: usize) -> usize
 
 // Whether a listing goes on behind the bytes read: where they fill the buffer, one more is tried.
 pub fn goes_on<R: Read>(input: &mut R, read: usize) -> io::Result<bool>
-    ensures { IfOk result (λ more. IfSome (R.remaining input.old) (λ left. more ≡ (leb 65536 read && ltb 0 (length left)))) }
+    ensures { IfOk result (λ more. IfSome (R.remaining input.old) (λ left. more ≡ (leb most_bytes read && ltb 0 (length left)))) }
 {
     if read < rules::MOST_BYTES {
         return Ok(false);

@@ -11,7 +11,7 @@ use run_replay::{Machines, Place};
 use std::io::{self, Read, Write};
 use std::process::ExitCode;
 
-const USAGE: &str = "replay LISTING RUN";
+const USAGE: &[u8] = b"replay LISTING RUN";
 
 // The bytes of a run that are read at a time. A line that is longer is bad, and what they print always fits the other buffer.
 const PIECE: usize = 512;
