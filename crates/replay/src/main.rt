@@ -38,6 +38,12 @@ fn read_ready<R: Read>(file: &mut R) -> io::Result<Ready> {
     Ok(host_prints::prepare(Wanted::Cover, &listing[..read], more))
 }
 
+fn piece_buffer() -> [u8; PIECE]
+    ensures { 512 ≡ length result }
+{
+    [0; PIECE]
+}
+
 // How many of the bytes read are replayed now: at the end of the run all, else the whole lines.
 fn piece_of(bytes: &[u8], filled: usize, last: bool) -> usize
     requires { filled ≤ length bytes.now }
@@ -135,7 +141,7 @@ fn print_replay<R: Read, W: Write>(ready: Ready, run: &mut R, output: &mut W) ->
         }
         Verdict::Accepted => {
             let m = host_replay::machines(ready);
-            let mut bytes = [0u8; PIECE];
+            let mut bytes = piece_buffer();
             print_run(m, run, &mut bytes, &mut out, output)
         }
     }
