@@ -1,4 +1,5 @@
 -- What is judged of a requirement of a fair listing is by which bit the code meets it, and a cover asks the same of the pairs and the groups.
+use Rattle.std.specs.Prelude.{None}
 use mathlib.Core.Path.{◌≡◌, refl, ap, ap₂, ◌∙◌}
 use mathlib.Core.Bool.{true}
 use mathlib.Core.List.{List, [], ◌∷◌, ◌++◌}
@@ -14,7 +15,6 @@ use Rattle.rules.specs.Requirements.{judgement, pairs_and_groups, requirements}
 use Rattle.rules.specs.Code.{Code, coded, unmet_from}
 use Rattle.rules.specs.declared.Requirement.{Requirement}
 use Rattle.rules.specs.declared.RequirementNumber.{RequirementNumber}
-use Rattle.rules.specs.declared.Judgement.TheVariants.{ByNone}
 use Rattle.rules.specs.declared.Listing.{Listing}
 use Rattle.rules.specs.declared.Encoding.{Encoding}
 use Rattle.rules.proofs.Good.{AllGood}
@@ -46,7 +46,7 @@ module _ (t : Listing) (f : fair t ≡ true) (good : AllGood t.head.states (requ
   judged-is h = rw (lt-ltb r.0 (length (requirements t)) h) (judged-at ∙ at-number t.head.states c.bits (requirements t) r.0 h)
 
   -- beyond them there is none to meet
-  pub judged-beyond : length (requirements t) ≤ r.0 → judged t (encoded_as t (coded c)) r ≡ ByNone
+  pub judged-beyond : length (requirements t) ≤ r.0 → judged t (encoded_as t (coded c)) r ≡ None
   unfolding judged encoded_as
   judged-beyond h = rw (le-ltb r.0 (length (requirements t)) h)
 

@@ -1,4 +1,5 @@
 -- The requirements of some families judged one after the other, as a walk meets them.
+use Rattle.std.specs.Prelude.{None}
 use mathlib.Core.Path.{◌≡◌, sym, ap, ◌∙◌}
 use mathlib.Core.Bool.{true, false}
 use mathlib.Core.List.{List, ◌∷◌}
@@ -10,7 +11,6 @@ use borrow.Author.Tests.{le-leb, lt-leb}
 use Rattle.rules.specs.Requirements.{judgement, is_by, met_by_code}
 use Rattle.rules.specs.Code.{unmet_from}
 use Rattle.rules.specs.declared.Requirement.{Requirement}
-use Rattle.rules.specs.declared.Judgement.TheVariants.{ByNone}
 use Rattle.rules.proofs.Unmet.{listed-met, listed-unmet, unmet-length}
 use Rattle.code_walking.specs.Walking.{ahead, here, next}
 use Rattle.code_walking.specs.declared.Walk.{Walk}
@@ -30,7 +30,7 @@ module _ (bits fs : List ℕ) (w : Walk) (k : ℕ) where
       let e : k ≡ suc (k - 1) = omega arith in
       sym (ap (judgement_at 64 bits (ahead fs w)) e ∙ ap (λ (rs : List Requirement). judgement_at 64 bits rs (suc (k - 1))) (ahead_step fs w h fits))
 
-  pub at-end : length fs < w.at + 3 → ByNone ≡ judgement_at 64 bits (ahead fs w) k
+  pub at-end : length fs < w.at + 3 → None ≡ judgement_at 64 bits (ahead fs w) k
   unfolding judgement_at
   at-end h = sym (ap (λ (rs : List Requirement). judgement_at 64 bits rs k) (over_none fs w h))
 

@@ -1,4 +1,6 @@
 -- A code meets a requirement of n states alike whether it is asked over n states or over all 64 that a set can have.
+use Rattle.rules.specs.declared.BitNumber.{BitNumber}
+use Rattle.std.specs.Prelude.{Option, Some}
 use mathlib.Core.Path.{◌≡◌, refl, sym, ap, ap₂, ◌∙◌}
 use mathlib.Core.Bool.{Bool, true, false, ◌&&◌, ◌||◌, cond}
 use mathlib.Core.List.{List, [], ◌∷◌}
@@ -8,8 +10,6 @@ use native.Mathlib.Nat.{lt_of_lt_of_le}
 use Rattle.rules.specs.Requirements.{wholly, met, judged_from, judgement, is_by, met_by_code}
 use Rattle.rules.specs.Code.{unmet_from}
 use Rattle.rules.specs.declared.Requirement.{Requirement}
-use Rattle.rules.specs.declared.Judgement.{Judgement}
-use Rattle.rules.specs.declared.Judgement.TheVariants.{By}
 use Rattle.rules.proofs.Good.{Good, AllGood}
 use Rattle.rules.proofs.Wholly.{wholly-zero, wholly-one}
 use Rattle.rules.proofs.Unmet.{listed-met, listed-unmet}
@@ -33,7 +33,7 @@ module _ (n : ℕ) (few : n ≤ 64) where
   from-wide : (k : ℕ) (bits : List ℕ) (r : Requirement) → Good n r → judged_from k 64 bits r ≡ judged_from k n bits r
   unfolding judged_from
   from-wide k [] r g = refl
-  from-wide k (b ∷ bs) r g = ap₂ (λ (t : Bool) (j : Judgement). cond t (By (record { 0 = k })) j) (met-wide r b g) (from-wide (suc k) bs r g)
+  from-wide k (b ∷ bs) r g = ap₂ (λ (t : Bool) (j : Option BitNumber). cond t (Some (record { 0 = k })) j) (met-wide r b g) (from-wide (suc k) bs r g)
 
   pub judged-wide : (bits : List ℕ) (r : Requirement) → Good n r → judgement 64 bits r ≡ judgement n bits r
   unfolding judgement

@@ -6,7 +6,7 @@ ghost use Rattle.rules.specs.Requirements.{asks, wholly, met, judgement};
 ghost use Rattle.families.specs.Families.{requirements_in};
 ghost use Rattle.code_judging.specs.Judging.{judgement_at, judged, some_unmet, any_unmet};
 
-use rules::{BitNumber, Encoding, Judgement, Requirement};
+use rules::{BitNumber, Encoding, Requirement};
 
 // Whether the bit b has value 0 on the whole block z and 1 on the whole block o.
 fn parts(b: u64, z: u64, o: u64) -> bool
@@ -29,21 +29,21 @@ pub fn meets(b: u64, first: u64, second: u64) -> bool
 }
 
 // The lowest bit of the code that meets it, or that none does.
-pub fn judge(bits: &[u64], r: Requirement) -> Judgement
+pub fn judge(bits: &[u64], r: Requirement) -> Option<BitNumber>
     ensures { result ≡ judgement 64 bits.now r }
 {
     let mut k: usize = 0;
     while k < bits.len() {
         if meets(bits[k], r.first, r.second) {
-            return Judgement::By(BitNumber(k));
+            return Some(BitNumber(k));
         }
         k += 1;
     }
-    Judgement::ByNone
+    None
 }
 
 // The judgement of the requirement with that number of the families; beyond them there is none to meet.
-fn judge_in(bits: &[u64], fs: &[u64], number: usize) -> Judgement
+fn judge_in(bits: &[u64], fs: &[u64], number: usize) -> Option<BitNumber>
     ensures { result ≡ judgement_at 64 bits.now (requirements_in fs.now) number }
 {
     let mut w = code_walking::enter(fs, 0);
@@ -55,17 +55,17 @@ fn judge_in(bits: &[u64], fs: &[u64], number: usize) -> Judgement
         w = code_walking::step(fs, w);
         left -= 1;
     }
-    Judgement::ByNone
+    None
 }
 
 // The judgement of the listing's requirement with that number; beyond those asked there is none to meet.
-pub fn judge_number(t: rules::Listing, e: Encoding, r: rules::RequirementNumber) -> Judgement
+pub fn judge_number(t: rules::Listing, e: Encoding, r: rules::RequirementNumber) -> Option<BitNumber>
     ensures { result ≡ judged t e r }
 {
     let k = r.0;
     let asked = e.asked;
     if asked <= k {
-        return Judgement::ByNone;
+        return None;
     }
     let width = sets::least(e.width, rules::MOST_BITS);
     let bits = e.bits;

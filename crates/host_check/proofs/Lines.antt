@@ -9,7 +9,6 @@ use Rattle.rules.specs.Report.{unmet_line}
 use Rattle.rules.specs.Answers.{Reply, says, refuses, printed}
 use Rattle.rules.specs.Check.{fault_line}
 use Rattle.rules.specs.declared.Fault.{Fault}
-use Rattle.rules.specs.declared.Fault.TheVariants.{At, Nowhere}
 use Rattle.rules.specs.declared.Refusal.{Refusal}
 use Rattle.rules.specs.declared.RequirementNumber.{RequirementNumber}
 use Rattle.rules.specs.declared.StateNumber.{StateNumber}
@@ -28,7 +27,7 @@ at_fields s v = simp append_assoc
 pub fault-at : {f : Fault} {s : StateNumber} {v : ℕ} → f ≡ At s v → fault_line (At s v) ≡ fault_line f
 fault-at e = sym (ap fault_line e)
 
-pub fault-none : {f : Fault} → f ≡ Nowhere → bytes "OK\n" ≡ fault_line f
+pub fault-none : {f : Fault} → f ≡ None → bytes "OK\n" ≡ fault_line f
 unfolding fault_line
 fault-none e = sym (ap fault_line e)
 
@@ -58,7 +57,7 @@ pub unmet-line : (n : RequirementNumber) → reply_of (Checked.Unmet n) ≡ says
 unfolding reply_of printed
 unmet-line n = refl
 
-pub judged-line : (f : Fault) → reply_of (Checked.Judged f) ≡ says (printed (reply_of (Checked.Judged f)))
+pub judged-line : (f : Option Fault) → reply_of (Checked.Judged f) ≡ says (printed (reply_of (Checked.Judged f)))
 unfolding reply_of printed
 judged-line f = refl
 

@@ -1,4 +1,5 @@
 -- No answer of a check is longer than 12 bytes, and no refusal is at a line that a number cannot say.
+use Rattle.std.specs.Prelude.{Option, Some, None}
 use mathlib.Core.Path.{◌≡◌, refl, subst}
 use mathlib.Core.Bool.{Bool, true, false}
 use mathlib.Core.List.{List, [], ◌∷◌}
@@ -14,13 +15,12 @@ use Rattle.rules.specs.Code.{unmet_from}
 use Rattle.rules.specs.Report.{unmet_line}
 use Rattle.rules.specs.Answers.{Reply, says, refuses}
 use Rattle.rules.specs.CheckTexts.{width_in, codes_refused, codes_read, code_good, with_code, codes_from, codes_reading, cover_reading}
-use Rattle.rules.specs.Check.{Lowest, lowest, none, lowest_from, fault_from, fault_of, bits_of, fails, fault_line, check_line, check_text, check_cover, check_codes, check_reply}
+use Rattle.rules.specs.Check.{lowest_from, fault_from, fault_of, bits_of, fails, fault_line, check_line, check_text, check_cover, check_codes, check_reply}
 use Rattle.rules.specs.declared.Requirement.{Requirement}
 use Rattle.rules.specs.declared.Listing.{Listing}
 use Rattle.rules.specs.declared.CodeTable.{CodeTable}
 use Rattle.rules.specs.declared.CodesReading.{CodesReading}
 use Rattle.rules.specs.declared.Fault.{Fault}
-use Rattle.rules.specs.declared.Fault.TheVariants.{At, Nowhere}
 use Rattle.rules.specs.declared.Verdict.{Verdict}
 use Rattle.rules.proofs.Decimal.{decimal-length}
 use Rattle.rules.proofs.LineNumbers.{refused-line}
@@ -50,33 +50,33 @@ first_below k n bits (r ∷ rs) = go (met_by_code n bits r) (unmet_from (suc k) 
     go false rest h = omega arith
 
 -- an input is one of so many, and a state too
-abbrev Within : ℕ → Lowest → Type 0
-Within n (lowest v) = v < n
-Within n none = Unit {0}
+abbrev Within : ℕ → Option ℕ → Type 0
+Within n (Some v) = v < n
+Within n None = Unit {0}
 
 lowest-within : (p : ℕ → Bool) (a k : ℕ) → Within (a + k) (lowest_from p a k)
 unfolding lowest_from
 lowest-within p a zero = tt
 lowest-within p a (suc k) = go (p a) (lowest_from p (suc a) k) (lowest-within p (suc a) k)
   where
-    go : (b : Bool) (l : Lowest) → Within (suc a + k) l → Within (a + suc k) (elim b [ true ↦ lowest a | false ↦ l ])
+    go : (b : Bool) (l : Option ℕ) → Within (suc a + k) l → Within (a + suc k) (elim b [ true ↦ Some a | false ↦ l ])
     go true l h = omega arith
-    go false (lowest v) h = omega arith
-    go false none h = tt
+    go false (Some v) h = omega arith
+    go false None h = tt
 
-abbrev There : ℕ → ℕ → Fault → Type 0
+abbrev There : ℕ → ℕ → Option Fault → Type 0
 There n m (At s v) = (s.0 < n) × (v < m)
-There n m Nowhere = Unit {0}
+There n m None = Unit {0}
 
 fault-there : (p : ℕ → ℕ → Bool) (i s k : ℕ) → There (s + k) (2 ^ i) (fault_from p i s k)
 unfolding fault_from
 fault-there p i s zero = tt
 fault-there p i s (suc k) = go (lowest_from (p s) 0 (2 ^ i)) (lowest-within (p s) 0 (2 ^ i)) (fault_from p i (suc s) k) (fault-there p i (suc s) k)
   where
-    go : (l : Lowest) → Within (0 + 2 ^ i) l → (f : Fault) → There (suc s + k) (2 ^ i) f → There (s + suc k) (2 ^ i) (elim l [ lowest v ↦ At (record { 0 = s }) v | none ↦ f ])
-    go (lowest v) w f h = (omega arith, omega arith)
-    go none w (At t v) h = (omega (arith, h.0), h.1)
-    go none w Nowhere h = tt
+    go : (l : Option ℕ) → Within (0 + 2 ^ i) l → (f : Option Fault) → There (suc s + k) (2 ^ i) f → There (s + suc k) (2 ^ i) (elim l [ Some v ↦ fault_at s v | None ↦ f ])
+    go (Some v) w f h = (omega arith, omega arith)
+    go None w (At t v) h = (omega (arith, h.0), h.1)
+    go None w None h = tt
 
 -- ---- the line
 
@@ -84,9 +84,9 @@ unmet-short : (r : ℕ) → r < most_asked → length (unmet_line (record { 0 = 
 unfolding unmet_line
 unmet-short r h = simp length-append (omega (arith, decimal-length 4 r (omega arith)))
 
-fault-short : (i : ℕ) → i ≤ 16 → (f : Fault) → There most_states (2 ^ i) f → length (fault_line f) ≤ 12
+fault-short : (i : ℕ) → i ≤ 16 → (f : Option Fault) → There most_states (2 ^ i) f → length (fault_line f) ≤ 12
 unfolding fault_line
-fault-short i few Nowhere h = omega arith
+fault-short i few None h = omega arith
 fault-short i few (At s v) h =
     let all : 2 ^ i ≤ 2 ^ 16 = pow-le-pow_right {n = 2} (omega arith) {i = i} {j = 16} few in
     simp length-append (omega (arith, decimal-length 1 s.0 (omega (arith, h.0)), decimal-length 4 v (omega (arith, h.1, all))))
@@ -100,11 +100,11 @@ module _ (t : Listing) (sound : Sound t) (bits : List ℕ) (ls : List (List ℕ)
   unfolding check_text check_line fault_of
   text-short = go (unmet_from 0 t.head.states bits (pairs_and_groups t)) (first_below 0 t.head.states bits (pairs_and_groups t)) (fault_of t bits ls) (fault-there (fails t bits ls) t.head.inputs 0 t.head.states)
     where
-      widen : (f : Fault) → There (0 + t.head.states) (2 ^ t.head.inputs) f → There most_states (2 ^ t.head.inputs) f
+      widen : (f : Option Fault) → There (0 + t.head.states) (2 ^ t.head.inputs) f → There most_states (2 ^ t.head.inputs) f
       widen (At s v) h = (omega (arith, h.0, sound.head.few-states), h.1)
-      widen Nowhere h = tt
+      widen None h = tt
 
-      go : (us : List ℕ) → Below (0 + length (pairs_and_groups t)) us → (f : Fault) → There (0 + t.head.states) (2 ^ t.head.inputs) f → length (check_line us f) ≤ 12
+      go : (us : List ℕ) → Below (0 + length (pairs_and_groups t)) us → (f : Option Fault) → There (0 + t.head.states) (2 ^ t.head.inputs) f → length (check_line us f) ≤ 12
       go [] b f h = fault-short t.head.inputs sound.head.few-inputs f (widen f h)
       go (u ∷ us) b f h = unmet-short u (omega (arith, b, few-first))
 

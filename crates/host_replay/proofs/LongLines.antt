@@ -1,4 +1,5 @@
 -- A line that is longer than any good one is bad, whatever comes behind: so a program that reads a run in pieces may refuse it when it has seen that much of it.
+use Rattle.std.specs.Prelude.{Ok, Err}
 use mathlib.Core.Path.{◌≡◌, refl, sym, ap, ◌∙◌}
 use mathlib.Core.Bool.{Bool, true, false, ◌&&◌, cond}
 use mathlib.Core.List.{List, [], ◌∷◌, ◌++◌}
@@ -14,8 +15,6 @@ use Rattle.rules.specs.Replay.{marked, start_read, start_line, vector_line}
 use Rattle.rules.specs.declared.Head.{Head}
 use Rattle.rules.specs.declared.Listing.{Listing}
 use Rattle.rules.specs.declared.Refusal.TheVariants.{BadLine, Limit}
-use Rattle.rules.specs.declared.StartLine.{StartLine}
-use Rattle.rules.specs.declared.VectorLine.{VectorLine}
 use Rattle.rules.proofs.Fields.{Without, split-last}
 use Rattle.read_pieces.proofs.Laws.{First}
 use Rattle.run_lines.proofs.Lengths.{marked-long, numeral-long, first-line}
@@ -36,20 +35,20 @@ unfolding sized
 sized-short k f e = leb-true (length f) most_inputs (and_first (leb (length f) most_inputs) _ e)
 
 module _ (h : Head) (l : List ℕ) (long : long-line ≤ length l) where
-  vector-long : (done : ℕ) → vector_line h done l ≡ VectorLine.Refused BadLine
+  vector-long : (done : ℕ) → vector_line h done l ≡ Err BadLine
   unfolding vector_line
   vector-long done = go (marked (bytes "IN") l && sized most_inputs h.inputs nought one one (field_at l 1)) refl
     where
       go : (b : Bool) → (marked (bytes "IN") l && sized most_inputs h.inputs nought one one (field_at l 1)) ≡ b
-          → cond b (cond (leb most_steps done) (VectorLine.Refused Limit) (VectorLine.Read (set_of one (field_at l 1)))) (VectorLine.Refused BadLine) ≡ VectorLine.Refused BadLine
+          → cond b (cond (leb most_steps done) (Err Limit) (Ok (set_of one (field_at l 1)))) (Err BadLine) ≡ Err BadLine
       go true e = absurd (omega (arith, marked-long (bytes "IN") l (and_first (marked (bytes "IN") l) _ e), sized-short h.inputs (field_at l 1) (and_second (marked (bytes "IN") l) _ e)))
       go false e = refl
 
-  start-long : start_line h l ≡ StartLine.Refused BadLine
+  start-long : start_line h l ≡ Err BadLine
   unfolding start_line start_read
   start-long = go (marked (bytes "SS") l) refl
     where
-      go : (b : Bool) → marked (bytes "SS") l ≡ b → cond b (start_read h (numeral_of (field_at l 1))) (StartLine.Refused BadLine) ≡ StartLine.Refused BadLine
+      go : (b : Bool) → marked (bytes "SS") l ≡ b → cond b (start_read h (numeral_of (field_at l 1))) (Err BadLine) ≡ Err BadLine
       go true e = ap (start_read h) (numeral-long (field_at l 1) (omega (arith, marked-long (bytes "SS") l e)))
       go false e = refl
 

@@ -1,4 +1,6 @@
 -- The lines of a cover in the tables: what those rows say that fire is what the lines say that fire, and the listing's rows stand as they stood.
+use Rattle.rules.specs.declared.Refusal.{Refusal}
+use Rattle.std.specs.Prelude.{Result, Ok, Err}
 use mathlib.Core.Path.{◌≡◌, refl, sym, ap, ap₂, subst, ◌∙◌}
 use mathlib.Core.Logic.{◌⊎◌, inl, inr}
 use mathlib.Core.Bool.{Bool, true, false, ◌&&◌, ◌||◌, cond, or-false, or_assoc, or_comm}
@@ -21,7 +23,6 @@ use Rattle.rules.specs.declared.Verdict.{Verdict}
 use Rattle.rules.specs.declared.Head.{Head}
 use Rattle.rules.specs.declared.Row.{Row}
 use Rattle.rules.specs.declared.CoverHeads.{CoverHeads}
-use Rattle.rules.specs.declared.CoverLine.{CoverLine}
 use Rattle.rules.proofs.Ways.{not-accepted}
 use Rattle.judge_search.specs.Rows.{any_from, row_fires}
 use Rattle.judge_search.proofs.Firing.{row-fires, row-silent}
@@ -197,7 +198,7 @@ module _ (q : Reader) where
     }
 
     -- what a line does
-    step : (h g : CoverHeads) (l : List ℕ) (t : Tables) → cover_line h l ≡ CoverLine.Read g → (h.part ≡ Rows → Fits q.taken q.given h) → Room h t → Room g (row_laid q h g l t) × (any (row_laid q h g l t) ≡ (any t || line l))
+    step : (h g : CoverHeads) (l : List ℕ) (t : Tables) → cover_line h l ≡ Ok g → (h.part ≡ Rows → Fits q.taken q.given h) → Room h t → Room g (row_laid q h g l t) × (any (row_laid q h g l t) ≡ (any t || line l))
     step h g l t e fits room = go (line_read h g l e)
       where
         go : Dotted h g l ⊎ Counted h g l → Room g (row_laid q h g l t) × (any (row_laid q h g l t) ≡ (any t || line l))
@@ -220,13 +221,13 @@ module _ (q : Reader) where
         sym (ap (λ (b : Bool). any t || (b || false)) (ap line (end_none q.taken q.given k h l ok).0 ∙ empty) ∙ or-false (any t))
     covered-from k h (l ∷ (m ∷ ms)) t room ok = go (cover_line h l) refl ok (λ g u. covered-from (k + 1) g (m ∷ ms) u)
       where
-        go : (c : CoverLine) → cover_line h l ≡ c → elim c [ CoverLine.Read g ↦ cover_from q.taken q.given (k + 1) g (m ∷ ms) | CoverLine.Refused r ↦ Verdict.Refused r k ] ≡ Verdict.Accepted
+        go : (c : Result CoverHeads Refusal) → cover_line h l ≡ c → elim c [ Ok g ↦ cover_from q.taken q.given (k + 1) g (m ∷ ms) | Err r ↦ Verdict.Refused r k ] ≡ Verdict.Accepted
             → ((g : CoverHeads) (u : Tables) → Room g u → cover_from q.taken q.given (k + 1) g (m ∷ ms) ≡ Verdict.Accepted → any (tables_from q g (m ∷ ms) u) ≡ (any u || some line (m ∷ ms)))
-            → any (elim c [ CoverLine.Read g ↦ tables_from q g (m ∷ ms) (row_laid q h g l t) | CoverLine.Refused r ↦ t ]) ≡ (any t || (line l || some line (m ∷ ms)))
-        go (CoverLine.Read g) e fine later =
+            → any (elim c [ Ok g ↦ tables_from q g (m ∷ ms) (row_laid q h g l t) | Err r ↦ t ]) ≡ (any t || (line l || some line (m ∷ ms)))
+        go (Ok g) e fine later =
             let done = step h g l t e (λ part. rows_fit q.taken q.given k h (l ∷ (m ∷ ms)) part ok) room in
             later g (row_laid q h g l t) done.0 fine ∙ ap (λ (b : Bool). b || some line (m ∷ ms)) done.1 ∙ or_assoc (any t) (line l) (some line (m ∷ ms))
-        go (CoverLine.Refused r) e fine later = absurd (not-accepted r k fine)
+        go (Err r) e fine later = absurd (not-accepted r k fine)
 
     -- from tables that hold no row of a cover
     pub covered-lines : (ls : List (List ℕ)) (t : Tables) → Room no_heads t → cover_reading q.taken q.given ls ≡ Verdict.Accepted → any (tables_from q no_heads ls t) ≡ some line ls
@@ -266,9 +267,9 @@ module _ (q : Reader) (rows : List Row) (codes : List ℕ) where
   stand-cover h (l ∷ []) t stand = stand
   stand-cover h (l ∷ (m ∷ ms)) t stand = go (cover_line h l) (λ g u. stand-cover g (m ∷ ms) u)
     where
-      behind : CoverLine → Tables
-      behind c = elim c [ CoverLine.Read g ↦ tables_from q g (m ∷ ms) (row_laid q h g l t) | CoverLine.Refused refusal ↦ t ]
+      behind : Result CoverHeads Refusal → Tables
+      behind c = elim c [ Ok g ↦ tables_from q g (m ∷ ms) (row_laid q h g l t) | Err refusal ↦ t ]
 
-      go : (c : CoverLine) → ((g : CoverHeads) (u : Tables) → Stand rows codes u.0 u.1 → Stand rows codes (tables_from q g (m ∷ ms) u).0 (tables_from q g (m ∷ ms) u).1) → Stand rows codes (behind c).0 (behind c).1
-      go (CoverLine.Read g) later = later g (row_laid q h g l t) (stand-row h g l t stand)
-      go (CoverLine.Refused r) later = stand
+      go : (c : Result CoverHeads Refusal) → ((g : CoverHeads) (u : Tables) → Stand rows codes u.0 u.1 → Stand rows codes (tables_from q g (m ∷ ms) u).0 (tables_from q g (m ∷ ms) u).1) → Stand rows codes (behind c).0 (behind c).1
+      go (Ok g) later = later g (row_laid q h g l t) (stand-row h g l t stand)
+      go (Err r) later = stand

@@ -1,4 +1,5 @@
 -- What checking finds is the reply of 02.
+use Rattle.std.specs.Prelude.{Option, Some, None}
 use mathlib.Core.Path.{◌≡◌, refl, sym, ap, ap₂, ◌∙◌}
 use mathlib.Core.Bool.{Bool}
 use mathlib.Core.List.{List, [], ◌∷◌, map}
@@ -13,12 +14,11 @@ use Rattle.rules.specs.Requirements.{pairs_and_groups, requirements}
 use Rattle.rules.specs.Code.{unmet_from}
 use Rattle.rules.specs.Answers.{Reply, says, refuses, on_reading}
 use Rattle.rules.specs.CheckTexts.{bit_in, no_heads, codes_reading, cover_reading}
-use Rattle.rules.specs.Check.{Lowest, lowest, none, fault_from, fault_of, bits_of, fails, check_line, check_text, check_cover, check_codes, check_reply}
+use Rattle.rules.specs.Check.{fault_from, fault_of, bits_of, fails, check_line, check_text, check_cover, check_codes, check_reply}
 use Rattle.rules.specs.declared.Requirement.{Requirement}
 use Rattle.rules.specs.declared.Listing.{Listing}
 use Rattle.rules.specs.declared.CodeTable.{CodeTable}
 use Rattle.rules.specs.declared.Fault.{Fault}
-use Rattle.rules.specs.declared.Fault.TheVariants.{At}
 use Rattle.rules.specs.declared.Reading.{Reading}
 use Rattle.rules.specs.declared.Verdict.{Verdict}
 use Rattle.rules.proofs.Good.{requirements-good}
@@ -51,7 +51,7 @@ fault-like : (p q : ℕ → ℕ → Bool) (i s k : ℕ) → ((y : ℕ) → y < s
 unfolding fault_from
 fault-like p q i s zero same = refl
 fault-like p q i s (suc k) same =
-    ap₂ {C = Fault} (λ (l : Lowest) (f : Fault). elim l [ lowest v ↦ At (record { 0 = s }) v | none ↦ f ])
+    ap₂ {C = Option Fault} (λ (l : Option ℕ) (f : Option Fault). elim l [ Some v ↦ fault_at s v | None ↦ f ])
     (lowest-same (p s) (q s) 0 (2 ^ i) (λ v l m. same s (omega arith) v)) (fault-like p q i (suc s) k (λ y l. same y (omega arith)))
 
 -- ---- the bits
@@ -95,10 +95,10 @@ module _ (t : Listing) (sound : Sound t) (apart : Apart (all_rows t)) (c : CodeT
     settled_is : reply_of (settled t c both) ≡ says (check_text t (bits_of n c) ls)
     unfolding settled check_text first_of reply_of check_line
     settled_is =
-        ap₂ (λ (us : List ℕ) (f : Fault). reply_of (elim (first_of us) [ Unmet.At r ↦ Checked.Unmet r | Unmet.Nothing ↦ Checked.Judged f ])) unmet-are fault-is
+        ap₂ (λ (us : List ℕ) (f : Option Fault). reply_of (elim (first_of us) [ Unmet.At r ↦ Checked.Unmet r | Unmet.Nothing ↦ Checked.Judged f ])) unmet-are fault-is
         ∙ go (unmet_from 0 n (bits_of n c) (pairs_and_groups t)) (fault_of t (bits_of n c) ls)
       where
-        go : (us : List ℕ) (f : Fault) → reply_of (elim (first_of us) [ Unmet.At r ↦ Checked.Unmet r | Unmet.Nothing ↦ Checked.Judged f ]) ≡ says (check_line us f)
+        go : (us : List ℕ) (f : Option Fault) → reply_of (elim (first_of us) [ Unmet.At r ↦ Checked.Unmet r | Unmet.Nothing ↦ Checked.Judged f ]) ≡ says (check_line us f)
         go [] f = refl
         go (u ∷ us) f = refl
 

@@ -1,4 +1,5 @@
 -- The first 65,536 bytes of codes decide them: no more than 64 lines of 72 bytes are good, and a longer text is refused at a line that they show.
+use Rattle.std.specs.Prelude.{Some, None}
 use mathlib.Core.Path.{◌≡◌, refl, sym, ap, ◌∙◌}
 use mathlib.Core.Logic.{◌⊎◌, inl, inr}
 use mathlib.Core.Bool.{Bool, true, false, ◌&&◌, ◌||◌, not, cond}
@@ -13,7 +14,6 @@ use Rattle.sets.proofs.Every.{and_first, and_second}
 use Rattle.rules.specs.Limits.{most_states, most_bits, most_bytes}
 use Rattle.rules.specs.Text.{bytes, lf, space, dash, nought, one, push, same, split, lines_of, fields_of, field_at, mark_of, sized, set_of, digits_of, numeral_of}
 use Rattle.rules.specs.CheckTexts.{code_fits, width_in, is_number, code_good, codes_refused, codes_read, with_code, codes_from, codes_reading}
-use Rattle.rules.specs.declared.Numeral.TheVariants.{Is, Bad}
 use Rattle.rules.specs.declared.CodeTable.{CodeTable}
 use Rattle.rules.specs.declared.CodesReading.{CodesReading}
 use Rattle.rules.proofs.Fields.{Without, none, more, split-part}
@@ -54,7 +54,7 @@ number_short : (s : ℕ) (f : List ℕ) → is_number s f ≡ true → length f 
 unfolding is_number numeral_of
 number_short s f e = go (leb 1 (length f)) (leb (length f) 4) refl (eqb (length f) 1 || not (eqb (get_or f 0 0) nought)) e
   where
-    go : (a b : Bool) → leb (length f) 4 ≡ b → (c : Bool) → elim (cond (a && b && c) (digits_of 0 f) Bad) as (λ x. Bool) [ Is v ↦ eqb v s | Bad ↦ false ] ≡ true → length f ≤ 4
+    go : (a b : Bool) → leb (length f) 4 ≡ b → (c : Bool) → elim (cond (a && b && c) (digits_of 0 f) None) as (λ x. Bool) [ Some v ↦ eqb v s | None ↦ false ] ≡ true → length f ≤ 4
     go a true q c e = leb-true (length f) 4 q
     go true false q c e = absurd (let z : ◌≡◌ {A = ℕ} 0 1 = cc in omega arith)
     go false false q c e = absurd (let z : ◌≡◌ {A = ℕ} 0 1 = cc in omega arith)

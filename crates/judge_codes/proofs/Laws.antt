@@ -1,4 +1,5 @@
 -- The lines of codes, test by test as they are judged, and one after the other.
+use Rattle.std.specs.Prelude.{Option, Some, None}
 use mathlib.Core.Path.{◌≡◌, refl, sym, ap, ap₂, ◌∙◌}
 use mathlib.Core.Bool.{Bool, true, false, ◌&&◌, cond}
 use mathlib.Core.List.{List, [], ◌∷◌}
@@ -11,8 +12,6 @@ use Rattle.rules.specs.Limits.{most_states, most_bits}
 use Rattle.rules.specs.Text.{bytes, dash, nought, one, lf, same, split, lines_of, fields_of, field_at, mark_of, sized, set_of, numeral_of}
 use Rattle.rules.specs.Listing.{nothing}
 use Rattle.rules.specs.CheckTexts.{code_fits, width_in, is_number, code_good, codes_refused, codes_read, with_code, codes_from, codes_reading}
-use Rattle.rules.specs.declared.Numeral.{Numeral}
-use Rattle.rules.specs.declared.Numeral.TheVariants.{Is, Bad}
 use Rattle.rules.specs.declared.CodeTable.{CodeTable}
 use Rattle.rules.specs.declared.CodesReading.{CodesReading}
 use Rattle.rules.proofs.Known.{same-eq}
@@ -64,13 +63,13 @@ module _ (f : List ℕ) where
   unfolding code_field
   field_fit w o e q = ap Code.Is q ∙ sym (ap (λ (b : Bool). cond b (Code.Is (set_of one f)) Code.Bad) (fits-some w o ∙ e))
 
-  pub number-bad : (s : ℕ) → numeral_of f ≡ Bad → false ≡ is_number s f
+  pub number-bad : (s : ℕ) → numeral_of f ≡ None → false ≡ is_number s f
   unfolding is_number
-  number-bad s e = sym (ap (λ (x : Numeral). elim x [ Is v ↦ eqb v s | Bad ↦ false ]) e)
+  number-bad s e = sym (ap (λ (x : Option ℕ). elim x [ Some v ↦ eqb v s | None ↦ false ]) e)
 
-  pub number_is : (s : ℕ) {v : ℕ} → numeral_of f ≡ Is v → eqb v s ≡ is_number s f
+  pub number_is : (s : ℕ) {v : ℕ} → numeral_of f ≡ Some v → eqb v s ≡ is_number s f
   unfolding is_number
-  number_is s e = sym (ap (λ (x : Numeral). elim x [ Is v ↦ eqb v s | Bad ↦ false ]) e)
+  number_is s e = sym (ap (λ (x : Option ℕ). elim x [ Some v ↦ eqb v s | None ↦ false ]) e)
 
 -- ---- a line
 

@@ -9,7 +9,7 @@ ghost use Rattle.judge_codes.specs.Lines.{just_dash, code_field, code_said, all_
 
 use read_fields::Places;
 use read_pieces::{cut, field};
-use rules::{CodeTable, CodesReading, Numeral, Refusal, Verdict};
+use rules::{CodeTable, CodesReading, Refusal, Verdict};
 
 // What a line says of the code of its state, bit k its digit k.
 #[derive(Clone, Copy)]
@@ -60,7 +60,7 @@ fn code_in(w: usize, f: &[u8]) -> Code
 fn is_number(s: usize, f: &[u8]) -> bool
     ensures { result ≡ is_number s f.now }
 {
-    let Numeral::Is(v) = read_fields::numeral_of(f) else {
+    let Some(v) = read_fields::numeral_of(f) else {
         return false;
     };
     v == s

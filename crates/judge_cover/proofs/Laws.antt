@@ -1,4 +1,6 @@
 -- The lines of a cover, test by test as they are judged.
+use Rattle.rules.specs.declared.Refusal.{Refusal}
+use Rattle.std.specs.Prelude.{Result, Option, Ok, Err, None}
 use mathlib.Core.Path.{◌≡◌, refl, sym, ap, ◌∙◌}
 use mathlib.Core.Bool.{Bool, true, false, ◌&&◌, ◌||◌, cond, and-false, or-true}
 use mathlib.Core.List.{List}
@@ -10,29 +12,26 @@ use Rattle.rules.specs.Limits.{most_checked}
 use Rattle.rules.specs.Text.{bytes, nought, one, dash, same, mark_of, fields_of, field_at, all_of, numeral_of}
 use Rattle.rules.specs.Replay.{marked}
 use Rattle.rules.specs.CheckTexts.{number_behind, places_fit, row_good, with_inputs, with_outputs, with_products, with_row, in_part, row_counted, end_counted, cover_line_in, cover_line, fitting}
-use Rattle.rules.specs.declared.Numeral.{Numeral}
-use Rattle.rules.specs.declared.Numeral.TheVariants.{Is, Bad}
 use Rattle.rules.specs.declared.Refusal.TheVariants.{BadLine, Limit, Misfit}
 use Rattle.rules.specs.declared.Verdict.{Verdict}
 use Rattle.rules.specs.declared.CoverPart.{CoverPart}
 use Rattle.rules.specs.declared.CoverPart.TheVariants.{Inputs, Outputs, Kind, Products, Rows, Over}
 use Rattle.rules.specs.declared.CoverHeads.{CoverHeads}
-use Rattle.rules.specs.declared.CoverLine.{CoverLine}
 
 -- ---- a mark and a number
 
 module _ (m l : List ℕ) where
-  behind-by : {a b : Bool} → eqb (length (fields_of l)) 2 ≡ a → same (field_at l 0) m ≡ b → number_behind m l ≡ cond (a && b) (numeral_of (field_at l 1)) Bad
+  behind-by : {a b : Bool} → eqb (length (fields_of l)) 2 ≡ a → same (field_at l 0) m ≡ b → number_behind m l ≡ cond (a && b) (numeral_of (field_at l 1)) None
   unfolding number_behind marked mark_of
   behind-by e f = rw (e, f)
 
-  pub behind-fields : (length (fields_of l) ≡ 2 → ⊥) → Bad ≡ number_behind m l
+  pub behind-fields : (length (fields_of l) ≡ 2 → ⊥) → None ≡ number_behind m l
   behind-fields o = sym (behind-by (ne_eqb _ 2 o) refl)
 
-  pub behind-mark : {g : List ℕ} → length (fields_of l) ≡ 2 → g ≡ field_at l 0 → same g m ≡ false → Bad ≡ number_behind m l
+  pub behind-mark : {g : List ℕ} → length (fields_of l) ≡ 2 → g ≡ field_at l 0 → same g m ≡ false → None ≡ number_behind m l
   behind-mark e q f = sym (behind-by (eq-eqb _ 2 e) (ap (λ (g : List ℕ). same g m) (sym q) ∙ f))
 
-  pub behind-number : {f g : List ℕ} {n : Numeral} → length (fields_of l) ≡ 2 → g ≡ field_at l 0 → same g m ≡ true → f ≡ field_at l 1 → n ≡ numeral_of f → n ≡ number_behind m l
+  pub behind-number : {f g : List ℕ} {n : Option ℕ} → length (fields_of l) ≡ 2 → g ≡ field_at l 0 → same g m ≡ true → f ≡ field_at l 1 → n ≡ numeral_of f → n ≡ number_behind m l
   behind-number e p t q r = r ∙ ap numeral_of q ∙ sym (behind-by (eq-eqb _ 2 e) (ap (λ (g : List ℕ). same g m) (sym p) ∙ t))
 
 -- ---- a field of places
@@ -73,30 +72,30 @@ module _ (h : CoverHeads) (l : List ℕ) where
   row-second e g q r = r ∙ ap (places_fit h.outputs) q ∙ sym (row_by (eq-eqb _ 2 e) g)
 
   counted-by : {a b c : Bool} → row_good h l ≡ a → ltb h.rows h.products ≡ b → ltb h.rows most_checked ≡ c
-      → row_counted h l ≡ cond (a && b) (cond c (CoverLine.Read (with_row h)) (CoverLine.Refused Limit)) (CoverLine.Refused BadLine)
+      → row_counted h l ≡ cond (a && b) (cond c (Ok (with_row h)) (Err Limit)) (Err BadLine)
   unfolding row_counted
   counted-by e f g = rw (e, f, g)
 
-  pub counted-bad : row_good h l ≡ false → CoverLine.Refused BadLine ≡ row_counted h l
+  pub counted-bad : row_good h l ≡ false → Err BadLine ≡ row_counted h l
   counted-bad e = sym (counted-by e refl refl)
 
-  pub counted-over : row_good h l ≡ true → h.products ≤ h.rows → CoverLine.Refused BadLine ≡ row_counted h l
+  pub counted-over : row_good h l ≡ true → h.products ≤ h.rows → Err BadLine ≡ row_counted h l
   counted-over e o = sym (counted-by e (le-ltb _ _ o) refl)
 
-  pub counted-many : row_good h l ≡ true → h.rows < h.products → most_checked ≤ h.rows → CoverLine.Refused Limit ≡ row_counted h l
+  pub counted-many : row_good h l ≡ true → h.rows < h.products → most_checked ≤ h.rows → Err Limit ≡ row_counted h l
   counted-many e f g = sym (counted-by e (lt-ltb _ _ f) (le-ltb _ _ g))
 
-  pub counted-one : row_good h l ≡ true → h.rows < h.products → h.rows < most_checked → CoverLine.Read (with_row h) ≡ row_counted h l
+  pub counted-one : row_good h l ≡ true → h.rows < h.products → h.rows < most_checked → Ok (with_row h) ≡ row_counted h l
   counted-one e f g = sym (counted-by e (lt-ltb _ _ f) (lt-ltb _ _ g))
 
 -- ---- the end
 
 module _ (h : CoverHeads) where
-  pub end-few : (h.rows ≡ h.products → ⊥) → CoverLine.Refused BadLine ≡ end_counted h
+  pub end-few : (h.rows ≡ h.products → ⊥) → Err BadLine ≡ end_counted h
   unfolding end_counted
   end-few o = rw (ne_eqb _ _ o)
 
-  pub end-all : h.rows ≡ h.products → CoverLine.Read (in_part Over h) ≡ end_counted h
+  pub end-all : h.rows ≡ h.products → Ok (in_part Over h) ≡ end_counted h
   unfolding end_counted
   end-all e = rw (eq-eqb _ _ e)
 
@@ -117,42 +116,42 @@ module _ (h : CoverHeads) where
 -- ---- what a line does, by the part that it stands in
 
 module _ (h : CoverHeads) (l : List ℕ) where
-  kind-by : {b : Bool} → same l (bytes ".type fd") ≡ b → cover_line_in Kind h l ≡ cond b (CoverLine.Read (in_part Products h)) (with_products (number_behind (bytes ".p") l) h)
+  kind-by : {b : Bool} → same l (bytes ".type fd") ≡ b → cover_line_in Kind h l ≡ cond b (Ok (in_part Products h)) (with_products (number_behind (bytes ".p") l) h)
   unfolding cover_line_in
   kind-by e = rw e
 
-  pub kind-fd : same l (bytes ".type fd") ≡ true → CoverLine.Read (in_part Products h) ≡ cover_line_in Kind h l
+  pub kind-fd : same l (bytes ".type fd") ≡ true → Ok (in_part Products h) ≡ cover_line_in Kind h l
   kind-fd e = sym (kind-by e)
 
-  pub kind-none : {n : Numeral} {r : CoverLine} → same l (bytes ".type fd") ≡ false → n ≡ number_behind (bytes ".p") l → r ≡ with_products n h → r ≡ cover_line_in Kind h l
-  kind-none e f g = g ∙ ap (λ (n : Numeral). with_products n h) f ∙ sym (kind-by e)
+  pub kind-none : {n : Option ℕ} {r : Result CoverHeads Refusal} → same l (bytes ".type fd") ≡ false → n ≡ number_behind (bytes ".p") l → r ≡ with_products n h → r ≡ cover_line_in Kind h l
+  kind-none e f g = g ∙ ap (λ (n : Option ℕ). with_products n h) f ∙ sym (kind-by e)
 
   body-by : {b : Bool} → same l (bytes ".e") ≡ b → cover_line_in Rows h l ≡ cond b (end_counted h) (row_counted h l)
   unfolding cover_line_in
   body-by e = rw e
 
-  pub body_end : {r : CoverLine} → same l (bytes ".e") ≡ true → r ≡ end_counted h → r ≡ cover_line_in Rows h l
+  pub body_end : {r : Result CoverHeads Refusal} → same l (bytes ".e") ≡ true → r ≡ end_counted h → r ≡ cover_line_in Rows h l
   body_end e q = q ∙ sym (body-by e)
 
-  pub body-row : {r : CoverLine} → same l (bytes ".e") ≡ false → r ≡ row_counted h l → r ≡ cover_line_in Rows h l
+  pub body-row : {r : Result CoverHeads Refusal} → same l (bytes ".e") ≡ false → r ≡ row_counted h l → r ≡ cover_line_in Rows h l
   body-row e q = q ∙ sym (body-by e)
 
-  pub in-part : {p : CoverPart} {r : CoverLine} → h.part ≡ p → r ≡ cover_line_in p h l → r ≡ cover_line h l
+  pub in-part : {p : CoverPart} {r : Result CoverHeads Refusal} → h.part ≡ p → r ≡ cover_line_in p h l → r ≡ cover_line h l
   unfolding cover_line
   in-part e q = q ∙ ap (λ (p : CoverPart). cover_line_in p h l) (sym e)
 
-  pub of-inputs : {n : Numeral} {r : CoverLine} → n ≡ number_behind (bytes ".i") l → r ≡ with_inputs n h → r ≡ cover_line_in Inputs h l
+  pub of-inputs : {n : Option ℕ} {r : Result CoverHeads Refusal} → n ≡ number_behind (bytes ".i") l → r ≡ with_inputs n h → r ≡ cover_line_in Inputs h l
   unfolding cover_line_in
-  of-inputs e q = q ∙ ap (λ (n : Numeral). with_inputs n h) e
+  of-inputs e q = q ∙ ap (λ (n : Option ℕ). with_inputs n h) e
 
-  pub of-outputs : {n : Numeral} {r : CoverLine} → n ≡ number_behind (bytes ".o") l → r ≡ with_outputs n h → r ≡ cover_line_in Outputs h l
+  pub of-outputs : {n : Option ℕ} {r : Result CoverHeads Refusal} → n ≡ number_behind (bytes ".o") l → r ≡ with_outputs n h → r ≡ cover_line_in Outputs h l
   unfolding cover_line_in
-  of-outputs e q = q ∙ ap (λ (n : Numeral). with_outputs n h) e
+  of-outputs e q = q ∙ ap (λ (n : Option ℕ). with_outputs n h) e
 
-  pub of-products : {n : Numeral} {r : CoverLine} → n ≡ number_behind (bytes ".p") l → r ≡ with_products n h → r ≡ cover_line_in Products h l
+  pub of-products : {n : Option ℕ} {r : Result CoverHeads Refusal} → n ≡ number_behind (bytes ".p") l → r ≡ with_products n h → r ≡ cover_line_in Products h l
   unfolding cover_line_in
-  of-products e q = q ∙ ap (λ (n : Numeral). with_products n h) e
+  of-products e q = q ∙ ap (λ (n : Option ℕ). with_products n h) e
 
-  pub of-over : CoverLine.Refused BadLine ≡ cover_line_in Over h l
+  pub of-over : Err BadLine ≡ cover_line_in Over h l
   unfolding cover_line_in
   of-over = refl

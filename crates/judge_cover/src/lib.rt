@@ -8,17 +8,17 @@ ghost use Rattle.rules.specs.declared.CoverPart.TheVariants.{Kind, Rows};
 ghost use Rattle.read_marks.specs.Marks.{two_of};
 
 use read_pieces::{field, field_count};
-use rules::{CoverHeads, CoverLine, CoverPart, Numeral, Refusal, Verdict};
+use rules::{CoverHeads, CoverPart, Refusal, Verdict};
 
 // The number behind a mark, where the line is both.
-fn number_behind(l: &[u8], m: &[u8; 2]) -> Numeral
+fn number_behind(l: &[u8], m: &[u8; 2]) -> Option<usize>
     ensures { result ≡ number_behind (two_of m.now) l.now }
 {
     if field_count(l) != 2 {
-        return Numeral::Bad;
+        return None;
     }
     if !read_marks::is_mark(field(l, 0), m) {
-        return Numeral::Bad;
+        return None;
     }
     read_fields::numeral_of(field(l, 1))
 }
@@ -77,12 +77,12 @@ fn is_row(h: CoverHeads, l: &[u8]) -> bool
 }
 
 // `.i` and its number.
-fn inputs_said(said: Numeral, h: CoverHeads) -> CoverLine
+fn inputs_said(said: Option<usize>, h: CoverHeads) -> Result<CoverHeads, Refusal>
     ensures { result ≡ with_inputs said h }
 {
     match said {
-        Numeral::Bad => CoverLine::Refused(Refusal::BadLine),
-        Numeral::Is(v) => CoverLine::Read(CoverHeads {
+        None => Err(Refusal::BadLine),
+        Some(v) => Ok(CoverHeads {
             part: CoverPart::Outputs,
             inputs: v,
             outputs: h.outputs,
@@ -93,12 +93,12 @@ fn inputs_said(said: Numeral, h: CoverHeads) -> CoverLine
 }
 
 // `.o` and its number.
-fn outputs_said(said: Numeral, h: CoverHeads) -> CoverLine
+fn outputs_said(said: Option<usize>, h: CoverHeads) -> Result<CoverHeads, Refusal>
     ensures { result ≡ with_outputs said h }
 {
     match said {
-        Numeral::Bad => CoverLine::Refused(Refusal::BadLine),
-        Numeral::Is(v) => CoverLine::Read(CoverHeads {
+        None => Err(Refusal::BadLine),
+        Some(v) => Ok(CoverHeads {
             part: CoverPart::Kind,
             inputs: h.inputs,
             outputs: v,
@@ -109,12 +109,12 @@ fn outputs_said(said: Numeral, h: CoverHeads) -> CoverLine
 }
 
 // `.p` and its number.
-fn products_said(said: Numeral, h: CoverHeads) -> CoverLine
+fn products_said(said: Option<usize>, h: CoverHeads) -> Result<CoverHeads, Refusal>
     ensures { result ≡ with_products said h }
 {
     match said {
-        Numeral::Bad => CoverLine::Refused(Refusal::BadLine),
-        Numeral::Is(v) => CoverLine::Read(CoverHeads {
+        None => Err(Refusal::BadLine),
+        Some(v) => Ok(CoverHeads {
             part: CoverPart::Rows,
             inputs: h.inputs,
             outputs: h.outputs,
@@ -125,19 +125,19 @@ fn products_said(said: Numeral, h: CoverHeads) -> CoverLine
 }
 
 // A row, one more than there were.
-fn row_said(h: CoverHeads, l: &[u8]) -> CoverLine
+fn row_said(h: CoverHeads, l: &[u8]) -> Result<CoverHeads, Refusal>
     ensures { result ≡ row_counted h l.now }
 {
     if !is_row(h, l) {
-        return CoverLine::Refused(Refusal::BadLine);
+        return Err(Refusal::BadLine);
     }
     if h.products <= h.rows {
-        return CoverLine::Refused(Refusal::BadLine);
+        return Err(Refusal::BadLine);
     }
     if rules::MOST_CHECKED <= h.rows {
-        return CoverLine::Refused(Refusal::Limit);
+        return Err(Refusal::Limit);
     }
-    CoverLine::Read(CoverHeads {
+    Ok(CoverHeads {
         part: CoverPart::Rows,
         inputs: h.inputs,
         outputs: h.outputs,
@@ -147,13 +147,13 @@ fn row_said(h: CoverHeads, l: &[u8]) -> CoverLine
 }
 
 // `.e`, behind the rows.
-fn end_said(h: CoverHeads) -> CoverLine
+fn end_said(h: CoverHeads) -> Result<CoverHeads, Refusal>
     ensures { result ≡ end_counted h }
 {
     if h.rows != h.products {
-        return CoverLine::Refused(Refusal::BadLine);
+        return Err(Refusal::BadLine);
     }
-    CoverLine::Read(CoverHeads {
+    Ok(CoverHeads {
         part: CoverPart::Over,
         inputs: h.inputs,
         outputs: h.outputs,
@@ -163,11 +163,11 @@ fn end_said(h: CoverHeads) -> CoverLine
 }
 
 // `.type fd` or, without it, `.p`.
-fn kind_said(h: CoverHeads, l: &[u8]) -> CoverLine
+fn kind_said(h: CoverHeads, l: &[u8]) -> Result<CoverHeads, Refusal>
     ensures { result ≡ cover_line_in Kind h l.now }
 {
     if read_names::same_bytes(l, b".type fd") {
-        return CoverLine::Read(CoverHeads {
+        return Ok(CoverHeads {
             part: CoverPart::Products,
             inputs: h.inputs,
             outputs: h.outputs,
@@ -179,7 +179,7 @@ fn kind_said(h: CoverHeads, l: &[u8]) -> CoverLine
 }
 
 // A row, or `.e`.
-fn body_said(h: CoverHeads, l: &[u8]) -> CoverLine
+fn body_said(h: CoverHeads, l: &[u8]) -> Result<CoverHeads, Refusal>
     ensures { result ≡ cover_line_in Rows h l.now }
 {
     if read_marks::is_mark(l, b".e") {
@@ -189,7 +189,7 @@ fn body_said(h: CoverHeads, l: &[u8]) -> CoverLine
 }
 
 // What a line does, behind those that said h.
-pub fn line_said(h: CoverHeads, l: &[u8]) -> CoverLine
+pub fn line_said(h: CoverHeads, l: &[u8]) -> Result<CoverHeads, Refusal>
     ensures { result ≡ cover_line h l.now }
 {
     let part = h.part;
@@ -199,7 +199,7 @@ pub fn line_said(h: CoverHeads, l: &[u8]) -> CoverLine
         CoverPart::Kind => kind_said(h, l),
         CoverPart::Products => products_said(number_behind(l, b".p"), h),
         CoverPart::Rows => body_said(h, l),
-        CoverPart::Over => CoverLine::Refused(Refusal::BadLine),
+        CoverPart::Over => Err(Refusal::BadLine),
     }
 }
 

@@ -1,4 +1,5 @@
 -- What a line of a cover is that was read: a head line or `.e`, whose first field begins with a dot, or a row behind the heads.
+use Rattle.std.specs.Prelude.{Result, Option, Ok, Err, Some, None}
 use mathlib.Core.Path.{◌≡◌, refl, sym, ap, subst, ◌∙◌}
 use mathlib.Core.Logic.{◌⊎◌, inl, inr}
 use mathlib.Core.Bool.{Bool, true, false, ◌&&◌, cond}
@@ -13,24 +14,21 @@ use Rattle.rules.specs.Limits.{most_checked}
 use Rattle.rules.specs.Text.{bytes, dot, same, split, mark_of, fields_of, field_at}
 use Rattle.rules.specs.Replay.{marked}
 use Rattle.rules.specs.CheckTexts.{number_behind, row_good, with_inputs, with_outputs, with_products, in_part, with_row, row_counted, end_counted, cover_line_in, cover_line, fitting, is_over, cover_end, cover_from, cover_reading, no_heads}
-use Rattle.rules.specs.declared.Numeral.{Numeral}
-use Rattle.rules.specs.declared.Numeral.TheVariants.{Is, Bad}
 use Rattle.rules.specs.declared.Refusal.{Refusal}
 use Rattle.rules.specs.declared.Refusal.TheVariants.{BadLine, Limit, Misfit}
 use Rattle.rules.specs.declared.Verdict.{Verdict}
 use Rattle.rules.specs.declared.CoverPart.{CoverPart}
 use Rattle.rules.specs.declared.CoverPart.TheVariants.{Inputs, Outputs, Kind, Products, Rows, Over}
 use Rattle.rules.specs.declared.CoverHeads.{CoverHeads}
-use Rattle.rules.specs.declared.CoverLine.{CoverLine}
 use Rattle.rules.proofs.Known.{same-eq}
 use Rattle.rules.proofs.Ways.{chose-first, not-accepted}
 
 -- ---- a refusal is no reading
 
-pub unread : (r : Refusal) (g : CoverHeads) → CoverLine.Refused r ≡ CoverLine.Read g → ⊥
+pub unread : (r : Refusal) (g : CoverHeads) → Err r ≡ Ok g → ⊥
 unread r g e = let z : ◌≡◌ {A = ℕ} 0 1 = cc in omega arith
 
-pub read_same : (a b : CoverHeads) → CoverLine.Read a ≡ CoverLine.Read b → a ≡ b
+pub read_same : (a b : CoverHeads) → Ok a ≡ Ok b → a ≡ b
 read_same a b e = cc
 
 -- ---- head lines
@@ -52,7 +50,7 @@ Dotted h g l = (g.rows ≡ h.rows) × (to_come g.part < to_come h.part) × (cs :
 abbrev pub Counted : CoverHeads → CoverHeads → List ℕ → Type 0
 Counted h g l = (h.part ≡ Rows) × (row_good h l ≡ true) × (h.rows < most_checked) × (g ≡ with_row h)
 
-behind-mark : (mark l : List ℕ) (v : ℕ) → number_behind mark l ≡ Is v → field_at l 0 ≡ mark
+behind-mark : (mark l : List ℕ) (v : ℕ) → number_behind mark l ≡ Some v → field_at l 0 ≡ mark
 unfolding number_behind marked mark_of
 behind-mark mark l v e =
     same-eq (field_at l 0) mark
@@ -60,17 +58,17 @@ behind-mark mark l v e =
     (chose-first (eqb (length (fields_of l)) 2 && same (field_at l 0) mark) e (λ q. let z : ◌≡◌ {A = ℕ} 0 1 = cc in omega arith)).0)
 
 -- a mark and a number
-numbered : (h g : CoverHeads) (l mark cs : List ℕ) (made : Numeral → CoverLine) (f : ℕ → CoverHeads) → mark ≡ dot ∷ cs → ((v : ℕ) → made (Is v) ≡ CoverLine.Read (f v)) → made Bad ≡ CoverLine.Refused BadLine
-    → ((v : ℕ) → (f v).rows ≡ h.rows) → ((v : ℕ) → to_come (f v).part < to_come h.part) → made (number_behind mark l) ≡ CoverLine.Read g → Dotted h g l
+numbered : (h g : CoverHeads) (l mark cs : List ℕ) (made : Option ℕ → Result CoverHeads Refusal) (f : ℕ → CoverHeads) → mark ≡ dot ∷ cs → ((v : ℕ) → made (Some v) ≡ Ok (f v)) → made None ≡ Err BadLine
+    → ((v : ℕ) → (f v).rows ≡ h.rows) → ((v : ℕ) → to_come (f v).part < to_come h.part) → made (number_behind mark l) ≡ Ok g → Dotted h g l
 numbered h g l mark cs made f dotted is bad rows less e = go (number_behind mark l) refl e
   where
-    go : (n : Numeral) → number_behind mark l ≡ n → made n ≡ CoverLine.Read g → Dotted h g l
-    go (Is v) q e =
+    go : (n : Option ℕ) → number_behind mark l ≡ n → made n ≡ Ok g → Dotted h g l
+    go (Some v) q e =
         let made_so : f v ≡ g = read_same (f v) g (sym (is v) ∙ e) in
         (ap (λ (c : CoverHeads). c.rows) (sym made_so) ∙ rows v, subst (λ (c : CoverHeads). to_come c.part < to_come h.part) made_so (less v), cs, behind-mark mark l v q ∙ dotted)
-    go Bad q e = absurd (unread BadLine g (sym bad ∙ e))
+    go None q e = absurd (unread BadLine g (sym bad ∙ e))
 
-products : (h g : CoverHeads) (l : List ℕ) → 1 < to_come h.part → with_products (number_behind (bytes ".p") l) h ≡ CoverLine.Read g → Dotted h g l
+products : (h g : CoverHeads) (l : List ℕ) → 1 < to_come h.part → with_products (number_behind (bytes ".p") l) h ≡ Ok g → Dotted h g l
 products h g l more e =
     numbered h g l (bytes ".p") (bytes "p") (λ n. with_products n h) (λ v. record { part = Rows; inputs = h.inputs; outputs = h.outputs; products = v; rows = h.rows })
     refl (λ v. refl) refl (λ v. refl) (λ v. more) e
@@ -78,11 +76,11 @@ products h g l more e =
 -- ---- behind the heads
 
 module _ (h g : CoverHeads) (l : List ℕ) where
-  ended : end_counted h ≡ CoverLine.Read g → g ≡ in_part Over h
+  ended : end_counted h ≡ Ok g → g ≡ in_part Over h
   unfolding end_counted
   ended e = sym (read_same (in_part Over h) g (chose-first (eqb h.rows h.products) e (unread BadLine g)).1)
 
-  counted : row_counted h l ≡ CoverLine.Read g → (row_good h l ≡ true) × (h.rows < most_checked) × (g ≡ with_row h)
+  counted : row_counted h l ≡ Ok g → (row_good h l ≡ true) × (h.rows < most_checked) × (g ≡ with_row h)
   unfolding row_counted
   counted e =
       let a = chose-first (row_good h l && ltb h.rows h.products) e (unread BadLine g) in
@@ -96,11 +94,11 @@ module _ (h g : CoverHeads) (l : List ℕ) where
   abbrev Adds : Type 0
   Adds = (row_good h l ≡ true) × (h.rows < most_checked) × (g ≡ with_row h)
 
-  body : cover_line_in Rows h l ≡ CoverLine.Read g → Ends ⊎ Adds
+  body : cover_line_in Rows h l ≡ Ok g → Ends ⊎ Adds
   unfolding cover_line_in
   body e = go (same l (bytes ".e")) refl e
     where
-      go : (b : Bool) → same l (bytes ".e") ≡ b → cond b (end_counted h) (row_counted h l) ≡ CoverLine.Read g → Ends ⊎ Adds
+      go : (b : Bool) → same l (bytes ".e") ≡ b → cond b (end_counted h) (row_counted h l) ≡ Ok g → Ends ⊎ Adds
       go true q e = inl (q, ended e)
       go false q e = inr (counted e)
 
@@ -123,11 +121,11 @@ module _ (h g : CoverHeads) (l : List ℕ) where
     above : (k : ℕ) → k < to_come p → k < to_come h.part
     above k less = subst (λ (q : CoverPart). k < to_come q) (sym here) less
 
-  kind : h.part ≡ Kind → cover_line_in Kind h l ≡ CoverLine.Read g → Dotted h g l
+  kind : h.part ≡ Kind → cover_line_in Kind h l ≡ Ok g → Dotted h g l
   unfolding cover_line_in
   kind here e = go (same l (bytes ".type fd")) refl e
     where
-      go : (b : Bool) → same l (bytes ".type fd") ≡ b → cond b (CoverLine.Read (in_part Products h)) (with_products (number_behind (bytes ".p") l) h) ≡ CoverLine.Read g → Dotted h g l
+      go : (b : Bool) → same l (bytes ".type fd") ≡ b → cond b (Ok (in_part Products h)) (with_products (number_behind (bytes ".p") l) h) ≡ Ok g → Dotted h g l
       go true q e =
           let made_so : in_part Products h ≡ g = read_same (in_part Products h) g e in
           (ap (λ (c : CoverHeads). c.rows) (sym made_so), within Kind here (in_part Products h) (omega arith) made_so, bytes "type", kind-dotted q)
@@ -137,11 +135,11 @@ module _ (h g : CoverHeads) (l : List ℕ) where
   by-body here (inl d) = inl (ap (λ (c : CoverHeads). c.rows) d.1, within Rows here (in_part Over h) (omega arith) (sym d.1), bytes "e", end-dotted d.0)
   by-body here (inr d) = inr (here, d.0, d.1, d.2)
 
-  pub line_read : cover_line h l ≡ CoverLine.Read g → Dotted h g l ⊎ Counted h g l
+  pub line_read : cover_line h l ≡ Ok g → Dotted h g l ⊎ Counted h g l
   unfolding cover_line cover_line_in
   line_read e = go h.part refl e
     where
-      go : (p : CoverPart) → h.part ≡ p → cover_line_in p h l ≡ CoverLine.Read g → Dotted h g l ⊎ Counted h g l
+      go : (p : CoverPart) → h.part ≡ p → cover_line_in p h l ≡ Ok g → Dotted h g l ⊎ Counted h g l
       go Inputs here e =
           inl
           (numbered h g l (bytes ".i") (bytes "i") (λ n. with_inputs n h) (λ v. record { part = Outputs; inputs = v; outputs = h.outputs; products = h.products; rows = h.rows })
@@ -184,7 +182,7 @@ end_none i o k h (x ∷ xs) e = absurd (not-accepted BadLine k e)
 abbrev Kept : CoverHeads → CoverHeads → Type 0
 Kept h g = (behind_heads g.part ≡ true) × (g.inputs ≡ h.inputs) × (g.outputs ≡ h.outputs)
 
-kept : (h g : CoverHeads) (l : List ℕ) → behind_heads h.part ≡ true → cover_line h l ≡ CoverLine.Read g → Kept h g
+kept : (h g : CoverHeads) (l : List ℕ) → behind_heads h.part ≡ true → cover_line h l ≡ Ok g → Kept h g
 unfolding cover_line cover_line_in
 kept h g l b e = go h.part b e
   where
@@ -198,7 +196,7 @@ kept h g l b e = go h.part b e
     rows-keep (inl d) = as-made (in_part Over h) d.1 (refl, refl, refl)
     rows-keep (inr d) = as-made (with_row h) d.2 (refl, refl, refl)
 
-    go : (p : CoverPart) → behind_heads p ≡ true → cover_line_in p h l ≡ CoverLine.Read g → Kept h g
+    go : (p : CoverPart) → behind_heads p ≡ true → cover_line_in p h l ≡ Ok g → Kept h g
     go Inputs b e = absurd (no b)
     go Outputs b e = absurd (no b)
     go Kind b e = absurd (no b)
@@ -212,13 +210,13 @@ fits-behind i o k h [] b e = absurd (not-accepted BadLine k e)
 fits-behind i o k h (l ∷ []) b e = (end_none i o k h l e).1
 fits-behind i o k h (l ∷ (m ∷ ms)) b e = go (cover_line h l) refl e (λ g. fits-behind i o (k + 1) g (m ∷ ms))
   where
-    go : (c : CoverLine) → cover_line h l ≡ c → elim c [ CoverLine.Read g ↦ cover_from i o (k + 1) g (m ∷ ms) | CoverLine.Refused r ↦ Verdict.Refused r k ] ≡ Verdict.Accepted
+    go : (c : Result CoverHeads Refusal) → cover_line h l ≡ c → elim c [ Ok g ↦ cover_from i o (k + 1) g (m ∷ ms) | Err r ↦ Verdict.Refused r k ] ≡ Verdict.Accepted
         → ((g : CoverHeads) → behind_heads g.part ≡ true → cover_from i o (k + 1) g (m ∷ ms) ≡ Verdict.Accepted → Fits i o g) → Fits i o h
-    go (CoverLine.Read g) q e later =
+    go (Ok g) q e later =
         let s = kept h g l b q in
         let f = later g s.0 e in
         (sym s.1 ∙ f.0, sym s.2 ∙ f.1)
-    go (CoverLine.Refused r) q e later = absurd (not-accepted r k e)
+    go (Err r) q e later = absurd (not-accepted r k e)
 
 pub rows_fit : (i o k : ℕ) (h : CoverHeads) (ls : List (List ℕ)) → h.part ≡ Rows → cover_from i o k h ls ≡ Verdict.Accepted → Fits i o h
 rows_fit i o k h ls p e = fits-behind i o k h ls (ap behind_heads p) e
@@ -229,7 +227,7 @@ rows_fit i o k h ls p e = fits-behind i o k h ls (ap behind_heads p) e
 abbrev pub left : CoverHeads → ℕ
 left h = to_come h.part + (most_checked - h.rows)
 
-pub fewer : (h g : CoverHeads) (l : List ℕ) → cover_line h l ≡ CoverLine.Read g → left g < left h
+pub fewer : (h g : CoverHeads) (l : List ℕ) → cover_line h l ≡ Ok g → left g < left h
 fewer h g l e = go (line_read h g l e)
   where
     go : Dotted h g l ⊎ Counted h g l → left g < left h
@@ -260,10 +258,10 @@ line-from i o k h [] q m e = omega (arith, refused-same BadLine q k m e)
 line-from i o k h (l ∷ []) q m e = omega (arith, end_line i o k h l q m e)
 line-from i o k h (l ∷ (n ∷ ns)) q m e = go (cover_line h l) refl e (λ g. line-from i o (k + 1) g (n ∷ ns) q m)
   where
-    go : (c : CoverLine) → cover_line h l ≡ c → elim c [ CoverLine.Read g ↦ cover_from i o (k + 1) g (n ∷ ns) | CoverLine.Refused r ↦ Verdict.Refused r k ] ≡ Verdict.Refused q m
+    go : (c : Result CoverHeads Refusal) → cover_line h l ≡ c → elim c [ Ok g ↦ cover_from i o (k + 1) g (n ∷ ns) | Err r ↦ Verdict.Refused r k ] ≡ Verdict.Refused q m
         → ((g : CoverHeads) → cover_from i o (k + 1) g (n ∷ ns) ≡ Verdict.Refused q m → m ≤ k + 1 + left g + 2) → m ≤ k + left h + 2
-    go (CoverLine.Read g) s e later = omega (arith, later g e, fewer h g l s)
-    go (CoverLine.Refused r) s e later = omega (arith, refused-same r q k m e)
+    go (Ok g) s e later = omega (arith, later g e, fewer h g l s)
+    go (Err r) s e later = omega (arith, refused-same r q k m e)
 
 -- no cover is refused behind line 264
 pub cover-line : (i o : ℕ) (ls : List (List ℕ)) (q : Refusal) (m : ℕ) → cover_reading i o ls ≡ Verdict.Refused q m → m ≤ 264

@@ -1,4 +1,5 @@
 -- The whole lines of a piece of a cover, line by line as a loop has them.
+use Rattle.std.specs.Prelude.{Result, Ok, Err}
 use mathlib.Core.Path.{◌≡◌, refl, sym, ap, ap₂, ◌∙◌}
 use mathlib.Core.List.{List, [], ◌∷◌}
 use Prim.Native.Nat.{ℕ, ◌+◌, ◌-◌, ◌≤◌, ◌<◌, min}
@@ -8,7 +9,6 @@ use Rattle.rules.specs.Text.{lf, lines_of}
 use Rattle.rules.specs.CheckTexts.{cover_line}
 use Rattle.rules.specs.declared.Refusal.{Refusal}
 use Rattle.rules.specs.declared.CoverHeads.{CoverHeads}
-use Rattle.rules.specs.declared.CoverLine.{CoverLine}
 use Rattle.read_pieces.proofs.Laws.{Cut, part, split-some}
 use Rattle.judge_reading.specs.Tables.{row_laid}
 use Rattle.judge_reading.specs.Pieces.{most_cover_lines, last_of, line_reached, line_tables, whole_reached, whole_tables, piece_from}
@@ -27,32 +27,32 @@ module _ (l : List ℕ) {p : Reached} where
   unfolding line_tables
   stays-tables q t e = sym (ap (λ (x : Reached). line_tables q x l t) e)
 
-  module _ {k : ℕ} {h : CoverHeads} (e : p ≡ Reached.Line k h) {v : CoverLine} (said : v ≡ cover_line h l) where
-    abbrev placeBy : CoverLine → Reached
-    placeBy v = elim v [ CoverLine.Read g ↦ Reached.Line (min k most_cover_lines + 1) g | CoverLine.Refused r ↦ Reached.Refused r k ]
+  module _ {k : ℕ} {h : CoverHeads} (e : p ≡ Reached.Line k h) {v : Result CoverHeads Refusal} (said : v ≡ cover_line h l) where
+    abbrev placeBy : Result CoverHeads Refusal → Reached
+    placeBy v = elim v [ Ok g ↦ Reached.Line (min k most_cover_lines + 1) g | Err r ↦ Reached.Refused r k ]
 
     place-by : line_reached p l ≡ placeBy v
     unfolding line_reached
     place-by = ap (λ (x : Reached). line_reached x l) e ∙ sym (ap placeBy said)
 
-    pub refused-place : {r : Refusal} → v ≡ CoverLine.Refused r → Reached.Refused r k ≡ line_reached p l
+    pub refused-place : {r : Refusal} → v ≡ Err r → Reached.Refused r k ≡ line_reached p l
     refused-place f = sym (place-by ∙ ap placeBy f)
 
-    pub read-place : {g : CoverHeads} {n : ℕ} → v ≡ CoverLine.Read g → n ≡ min k most_cover_lines → Reached.Line (n + 1) g ≡ line_reached p l
+    pub read-place : {g : CoverHeads} {n : ℕ} → v ≡ Ok g → n ≡ min k most_cover_lines → Reached.Line (n + 1) g ≡ line_reached p l
     read-place {g} f m = ap (λ (n : ℕ). Reached.Line (n + 1) g) m ∙ sym (place-by ∙ ap placeBy f)
 
     module _ (q : Reader) (t : List ℕ × List ℕ) where
-      abbrev tablesBy : CoverLine → List ℕ × List ℕ
-      tablesBy v = elim v [ CoverLine.Read g ↦ row_laid q h g l t | CoverLine.Refused r ↦ t ]
+      abbrev tablesBy : Result CoverHeads Refusal → List ℕ × List ℕ
+      tablesBy v = elim v [ Ok g ↦ row_laid q h g l t | Err r ↦ t ]
 
       tables-by : line_tables q p l t ≡ tablesBy v
       unfolding line_tables
       tables-by = ap (λ (x : Reached). line_tables q x l t) e ∙ sym (ap tablesBy said)
 
-      pub refused-tables : {r : Refusal} → v ≡ CoverLine.Refused r → t ≡ line_tables q p l t
+      pub refused-tables : {r : Refusal} → v ≡ Err r → t ≡ line_tables q p l t
       refused-tables f = sym (tables-by ∙ ap tablesBy f)
 
-      pub read-tables : {g : CoverHeads} {u : List ℕ × List ℕ} → v ≡ CoverLine.Read g → u ≡ row_laid q h g l t → u ≡ line_tables q p l t
+      pub read-tables : {g : CoverHeads} {u : List ℕ × List ℕ} → v ≡ Ok g → u ≡ row_laid q h g l t → u ≡ line_tables q p l t
       read-tables f m = m ∙ sym (tables-by ∙ ap tablesBy f)
 
 -- ---- the line from `at` to `end`

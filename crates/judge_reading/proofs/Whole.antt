@@ -1,4 +1,5 @@
 -- A cover that is read in pieces is the cover: its whole lines and then its end are its reading, and a piece and what comes behind it are one text.
+use Rattle.std.specs.Prelude.{Result, Ok, Err}
 use mathlib.Core.Path.{◌≡◌, refl, sym, ap, ap₂, ◌∙◌}
 use mathlib.Core.Bool.{Bool, true, false, cond}
 use mathlib.Core.List.{List, [], ◌∷◌, ◌++◌}
@@ -12,7 +13,6 @@ use Rattle.rules.specs.CheckTexts.{no_heads, cover_line, cover_from, cover_readi
 use Rattle.rules.specs.declared.Verdict.{Verdict}
 use Rattle.rules.specs.declared.Refusal.{Refusal}
 use Rattle.rules.specs.declared.CoverHeads.{CoverHeads}
-use Rattle.rules.specs.declared.CoverLine.{CoverLine}
 use Rattle.read_pieces.proofs.Laws.{split-some}
 use Rattle.read_pieces.proofs.Places.{only-piece}
 use Rattle.judge_reading.specs.Tables.{row_laid, tables_from}
@@ -93,14 +93,14 @@ module _ (q : Reader) where
   whole-verdict k h (l ∷ []) s p = refl
   whole-verdict k h (l ∷ (m ∷ ms)) s p = go (cover_line h l) refl (λ g. whole-verdict (k + 1) g (m ∷ ms) (omega arith))
     where
-      go : (v : CoverLine) → cover_line h l ≡ v → ((g : CoverHeads) → Placed (k + 1) g → closed_by q (whole_reached (Reached.Line (k + 1) g) (m ∷ ms)) (last_of (m ∷ ms)) ≡ cover_from q.taken q.given (k + 1) g (m ∷ ms))
-          → closed_by q (whole_reached (elim v [ CoverLine.Read g ↦ Reached.Line (min k most_cover_lines + 1) g | CoverLine.Refused r ↦ Reached.Refused r k ]) (m ∷ ms)) (last_of (m ∷ ms))
-          ≡ elim v [ CoverLine.Read g ↦ cover_from q.taken q.given (k + 1) g (m ∷ ms) | CoverLine.Refused r ↦ Verdict.Refused r k ]
-      go (CoverLine.Read g) e later =
+      go : (v : Result CoverHeads Refusal) → cover_line h l ≡ v → ((g : CoverHeads) → Placed (k + 1) g → closed_by q (whole_reached (Reached.Line (k + 1) g) (m ∷ ms)) (last_of (m ∷ ms)) ≡ cover_from q.taken q.given (k + 1) g (m ∷ ms))
+          → closed_by q (whole_reached (elim v [ Ok g ↦ Reached.Line (min k most_cover_lines + 1) g | Err r ↦ Reached.Refused r k ]) (m ∷ ms)) (last_of (m ∷ ms))
+          ≡ elim v [ Ok g ↦ cover_from q.taken q.given (k + 1) g (m ∷ ms) | Err r ↦ Verdict.Refused r k ]
+      go (Ok g) e later =
           let less : left g < left h = fewer h g l e in
           let n : min k most_cover_lines ≡ k = omega arith in
           ap (λ (n : ℕ). closed_by q (whole_reached (Reached.Line (n + 1) g) (m ∷ ms)) (last_of (m ∷ ms))) n ∙ later g (omega arith)
-      go (CoverLine.Refused r) e later = ap (λ (p : Reached). closed_by q p (last_of (m ∷ ms))) (refused-stays r k (m ∷ ms))
+      go (Err r) e later = ap (λ (p : Reached). closed_by q p (last_of (m ∷ ms))) (refused-stays r k (m ∷ ms))
 
   pub whole-tables : (k : ℕ) (h : CoverHeads) (ls : List (List ℕ)) (t : List ℕ × List ℕ) → whole_tables q (Reached.Line k h) ls t ≡ tables_from q h ls t
   unfolding whole_tables tables_from line_reached line_tables
@@ -108,11 +108,11 @@ module _ (q : Reader) where
   whole-tables k h (l ∷ []) t = refl
   whole-tables k h (l ∷ (m ∷ ms)) t = go (cover_line h l) (λ n g. whole-tables n g (m ∷ ms) (row_laid q h g l t))
     where
-      go : (v : CoverLine) → ((n : ℕ) (g : CoverHeads) → whole_tables q (Reached.Line n g) (m ∷ ms) (row_laid q h g l t) ≡ tables_from q g (m ∷ ms) (row_laid q h g l t))
-          → whole_tables q (elim v [ CoverLine.Read g ↦ Reached.Line (min k most_cover_lines + 1) g | CoverLine.Refused r ↦ Reached.Refused r k ]) (m ∷ ms) (elim v [ CoverLine.Read g ↦ row_laid q h g l t | CoverLine.Refused r ↦ t ])
-          ≡ elim v [ CoverLine.Read g ↦ tables_from q g (m ∷ ms) (row_laid q h g l t) | CoverLine.Refused r ↦ t ]
-      go (CoverLine.Read g) later = later (min k most_cover_lines + 1) g
-      go (CoverLine.Refused r) later = refused-lays q r k (m ∷ ms) t
+      go : (v : Result CoverHeads Refusal) → ((n : ℕ) (g : CoverHeads) → whole_tables q (Reached.Line n g) (m ∷ ms) (row_laid q h g l t) ≡ tables_from q g (m ∷ ms) (row_laid q h g l t))
+          → whole_tables q (elim v [ Ok g ↦ Reached.Line (min k most_cover_lines + 1) g | Err r ↦ Reached.Refused r k ]) (m ∷ ms) (elim v [ Ok g ↦ row_laid q h g l t | Err r ↦ t ])
+          ≡ elim v [ Ok g ↦ tables_from q g (m ∷ ms) (row_laid q h g l t) | Err r ↦ t ]
+      go (Ok g) later = later (min k most_cover_lines + 1) g
+      go (Err r) later = refused-lays q r k (m ∷ ms) t
 
   -- from the start
   pub cover-verdict : (text : List ℕ) → closed_by q (whole_reached (Reached.Line 1 no_heads) (lines_of text)) (last_of (lines_of text)) ≡ cover_reading q.taken q.given (lines_of text)

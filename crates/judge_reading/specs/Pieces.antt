@@ -1,9 +1,8 @@
 -- A cover in pieces: where its whole lines come to from a place, and the rows that they lay.
-use Rattle.std.specs.Prelude.{List, [], ◌∷◌, ℕ, ◌+◌, ◌-◌, min, length}
+use Rattle.std.specs.Prelude.{List, [], ◌∷◌, ℕ, ◌+◌, ◌-◌, min, length, Ok, Err}
 use Rattle.rules.specs.Text.{split, lines_of}
 use Rattle.rules.specs.CheckTexts.{cover_line, cover_end}
 use Rattle.rules.specs.declared.Verdict.{Verdict}
-use Rattle.rules.specs.declared.CoverLine.{CoverLine}
 use Rattle.judge_reading.specs.Tables.{row_laid}
 use Rattle.judge_reading.specs.declared.Reader.{Reader}
 use Rattle.judge_reading.specs.declared.Reached.{Reached}
@@ -22,12 +21,12 @@ last_of (l ∷ (m ∷ ms)) = last_of (m ∷ ms)
 -- one line further; no place lies further on than behind the longest good cover
 unfoldable pub line_reached : Reached → List ℕ → Reached
 unfolding cover_line
-line_reached (Reached.Line k h) l = elim (cover_line h l) [ CoverLine.Read g ↦ Reached.Line (min k most_cover_lines + 1) g | CoverLine.Refused r ↦ Reached.Refused r k ]
+line_reached (Reached.Line k h) l = elim (cover_line h l) [ Ok g ↦ Reached.Line (min k most_cover_lines + 1) g | Err r ↦ Reached.Refused r k ]
 line_reached (Reached.Refused r k) l = Reached.Refused r k
 
 unfoldable pub line_tables : Reader → Reached → List ℕ → List ℕ × List ℕ → List ℕ × List ℕ
 unfolding cover_line row_laid
-line_tables q (Reached.Line k h) l t = elim (cover_line h l) [ CoverLine.Read g ↦ row_laid q h g l t | CoverLine.Refused r ↦ t ]
+line_tables q (Reached.Line k h) l t = elim (cover_line h l) [ Ok g ↦ row_laid q h g l t | Err r ↦ t ]
 line_tables q (Reached.Refused r k) l t = t
 
 -- the whole lines: all but what stands behind the last LF

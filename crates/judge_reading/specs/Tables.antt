@@ -1,9 +1,8 @@
 -- The rows of a cover in the tables, line by line.
-use Rattle.std.specs.Prelude.{Bool, ◌&&◌, cond, List, [], ◌∷◌, ℕ, ◌+◌, min, ltb, eqb, take}
+use Rattle.std.specs.Prelude.{Bool, ◌&&◌, cond, List, [], ◌∷◌, ℕ, ◌+◌, min, ltb, eqb, take, Ok, Err}
 use Rattle.rules.specs.Limits.{most_states, most_checked}
 use Rattle.rules.specs.CheckTexts.{cover_line}
 use Rattle.rules.specs.declared.CoverHeads.{CoverHeads}
-use Rattle.rules.specs.declared.CoverLine.{CoverLine}
 use Rattle.judge_search.specs.Rows.{listing_rows}
 use Rattle.judge_rows.specs.Rows.{line_laid}
 use Rattle.judge_reading.specs.declared.Reader.{Reader}
@@ -22,4 +21,4 @@ unfoldable pub tables_from : Reader → CoverHeads → List (List ℕ) → List 
 unfolding row_laid cover_line
 tables_from q h [] t = t
 tables_from q h (l ∷ []) t = t
-tables_from q h (l ∷ (m ∷ ms)) t = elim (cover_line h l) [ CoverLine.Read g ↦ tables_from q g (m ∷ ms) (row_laid q h g l t) | CoverLine.Refused r ↦ t ]
+tables_from q h (l ∷ (m ∷ ms)) t = elim (cover_line h l) [ Ok g ↦ tables_from q g (m ∷ ms) (row_laid q h g l t) | Err r ↦ t ]

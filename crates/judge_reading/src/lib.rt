@@ -10,7 +10,7 @@ ghost use Rattle.judge_reading.specs.declared.Reached.{Reached};
 
 use judge_search::{FIRES_WORDS, LISTING_ROWS, SAYS_WORDS};
 use read_pieces::cut;
-use rules::{CodeTable, CoverHeads, CoverLine, CoverPart, Refusal, Verdict};
+use rules::{CodeTable, CoverHeads, CoverPart, Refusal, Verdict};
 
 // The lines of the longest good cover: `.i`, `.o`, `.type fd`, `.p`, 256 rows and `.e`.
 const MOST_COVER_LINES: usize = 261;
@@ -132,8 +132,8 @@ fn read_line(
         Reached::Line(k, h) => {
             let got = judge_cover::line_said(h, l);
             match got {
-                CoverLine::Refused(r) => Reached::Refused(r, k),
-                CoverLine::Read(g) => {
+                Err(r) => Reached::Refused(r, k),
+                Ok(g) => {
                     put_row(q, h, g, l, fires, says);
                     Reached::Line(sets::least(k, MOST_COVER_LINES) + 1, g)
                 }

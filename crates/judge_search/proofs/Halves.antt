@@ -1,11 +1,11 @@
 -- The search as it calls itself: a part that is decided, and the two halves of one that is not.
+use Rattle.std.specs.Prelude.{Option, Some, None}
 use mathlib.Core.Path.{◌≡◌, refl, sym, ap, ap₂, ◌∙◌}
 use mathlib.Core.Bool.{Bool, true, false, cond}
 use mathlib.Core.List.{List, []}
 use Prim.Native.Nat.{ℕ, zero, suc, ◌+◌, ◌*◌, ◌-◌, ◌^◌, ◌≤◌, ◌<◌}
 use native.Mathlib.Nat.{pow-suc, le-mul_of_pos_right, mul-le-mul_right}
 use native.Mathlib.Omega.{arith}
-use Rattle.rules.specs.Check.{Lowest, lowest, none}
 use Rattle.judge_search.specs.Search.{fails_over, kept_words, same_words, or_else, searched, told}
 use Rattle.judge_search.specs.declared.Found.{Found}
 use Rattle.judge_search.specs.declared.Said.{Said}
@@ -16,21 +16,21 @@ module _ (listing cover : Said) (says cols : List ℕ) (at v : ℕ) (rows : List
   unfolding searched told
   leaf {b} z e = ap (λ (k : ℕ). told (searched listing cover says cols at k v rows)) z ∙ go (fails_over listing cover says rows) ∙ ap (λ (b : Bool). cond b (Found.At v) Found.Nothing) (sym e)
     where
-      go : (b : Bool) → told (cond b (lowest v) none) ≡ cond b (Found.At v) Found.Nothing
+      go : (b : Bool) → told (cond b (Some v) None) ≡ cond b (Found.At v) Found.Nothing
       go true = refl
       go false = refl
 
   module _ (k : ℕ) (some : k ≡ 0 → ⊥) (low high : List ℕ) (is-low : low ≡ kept_words rows cols at) (is-high : high ≡ kept_words rows cols (at + 7)) where
-    abbrev first : Lowest
+    abbrev first : Option ℕ
     first = searched listing cover says cols (at + 14) (k - 1) (v * 2) low
 
-    abbrev second : Lowest
+    abbrev second : Option ℕ
     second = searched listing cover says cols (at + 14) (k - 1) (v * 2 + 1) high
 
-    abbrev halves : List ℕ → List ℕ → Lowest
-    halves l h = or_else (searched listing cover says cols (at + 14) (k - 1) (v * 2) l) (cond (same_words l h) none (searched listing cover says cols (at + 14) (k - 1) (v * 2 + 1) h))
+    abbrev halves : List ℕ → List ℕ → Option ℕ
+    halves l h = or_else (searched listing cover says cols (at + 14) (k - 1) (v * 2) l) (cond (same_words l h) None (searched listing cover says cols (at + 14) (k - 1) (v * 2 + 1) h))
 
-    two : searched listing cover says cols at k v rows ≡ or_else first (cond (same_words low high) none second)
+    two : searched listing cover says cols at k v rows ≡ or_else first (cond (same_words low high) None second)
     unfolding searched
     two =
         let e : k ≡ suc (k - 1) = omega arith in
@@ -41,26 +41,26 @@ module _ (listing cover : Said) (says cols : List ℕ) (at v : ℕ) (rows : List
     unfolding told
     in-first {f} {w} e q = e ∙ sym (ap told two ∙ go first (sym q ∙ e))
       where
-        go : (x : Lowest) → Found.At w ≡ told x → told (or_else x (cond (same_words low high) none second)) ≡ told x
-        go (lowest x) e = refl
-        go none e = absurd (let z : ◌≡◌ {A = ℕ} 0 1 = cc in omega arith)
+        go : (x : Option ℕ) → Found.At w ≡ told x → told (or_else x (cond (same_words low high) None second)) ≡ told x
+        go (Some x) e = refl
+        go None e = absurd (let z : ◌≡◌ {A = ℕ} 0 1 = cc in omega arith)
 
-    in-second : {f : Found} → f ≡ told first → f ≡ Found.Nothing → searched listing cover says cols at k v rows ≡ cond (same_words low high) none second
+    in-second : {f : Found} → f ≡ told first → f ≡ Found.Nothing → searched listing cover says cols at k v rows ≡ cond (same_words low high) None second
     unfolding told
     in-second e q = two ∙ go first (sym q ∙ e)
       where
-        go : (x : Lowest) → Found.Nothing ≡ told x → or_else x (cond (same_words low high) none second) ≡ cond (same_words low high) none second
-        go (lowest x) e = absurd (let z : ◌≡◌ {A = ℕ} 0 1 = cc in omega arith)
-        go none e = refl
+        go : (x : Option ℕ) → Found.Nothing ≡ told x → or_else x (cond (same_words low high) None second) ≡ cond (same_words low high) None second
+        go (Some x) e = absurd (let z : ◌≡◌ {A = ℕ} 0 1 = cc in omega arith)
+        go None e = refl
 
     -- the second is like it
     pub like-first : {f : Found} → f ≡ told first → f ≡ Found.Nothing → same_words low high ≡ true → Found.Nothing ≡ told (searched listing cover says cols at k v rows)
     unfolding told
-    like-first e q s = sym (ap told (in-second e q ∙ ap (λ (b : Bool). cond b none second) s))
+    like-first e q s = sym (ap told (in-second e q ∙ ap (λ (b : Bool). cond b None second) s))
 
     -- or is searched
     pub as-second : {f g : Found} → f ≡ told first → f ≡ Found.Nothing → same_words low high ≡ false → g ≡ told second → g ≡ told (searched listing cover says cols at k v rows)
-    as-second e q s r = r ∙ sym (ap told (in-second e q ∙ ap (λ (b : Bool). cond b none second) s))
+    as-second e q s r = r ∙ sym (ap told (in-second e q ∙ ap (λ (b : Bool). cond b None second) s))
 
 -- ---- the numbers of both halves stay below 2^16
 

@@ -1,4 +1,5 @@
 -- The search finds the lowest input of all that fails: a part of the inputs is its two halves, and halves that leave the same rows are alike.
+use Rattle.std.specs.Prelude.{Option, Some, None}
 use mathlib.Core.Path.{◌≡◌, refl, sym, ap, ap₂, ◌∙◌}
 use mathlib.Core.Bool.{Bool, true, false, ◌&&◌, not, cond}
 use mathlib.Core.List.{List, [], ◌∷◌, map}
@@ -13,7 +14,7 @@ use borrow.Author.Tests.{eqb-true}
 use Rattle.sets.specs.Sets.{has, every, states_from}
 use Rattle.sets.proofs.Every.{every-at}
 use Rattle.rules.specs.Text.{digit}
-use Rattle.rules.specs.Check.{Lowest, lowest, none, lowest_from}
+use Rattle.rules.specs.Check.{lowest_from}
 use Rattle.rules.proofs.Most.{states-length}
 use Rattle.rules.proofs.Agreeing.{each-state}
 use Rattle.judge_search.specs.Rows.{lets, lets_from, word_from, words_of, column_word, columns}
@@ -29,7 +30,7 @@ unfolding lowest_from
 lowest-same p q a zero h = refl
 lowest-same p q a (suc k) h =
     let rest = lowest-same p q (suc a) k (λ x l r. h x (omega arith) (omega arith)) in
-    ap₂ (λ (b : Bool) (r : Lowest). elim b [ true ↦ lowest a | false ↦ r ]) (h a (omega arith) (omega arith)) rest
+    ap₂ (λ (b : Bool) (r : Option ℕ). elim b [ true ↦ Some a | false ↦ r ]) (h a (omega arith) (omega arith)) rest
 
 pub lowest-parts : (p : ℕ → Bool) (a k m : ℕ) → lowest_from p a (k + m) ≡ or_else (lowest_from p a k) (lowest_from p (a + k) m)
 unfolding lowest_from
@@ -38,10 +39,10 @@ lowest-parts p a (suc k) m =
     let e : suc a + k ≡ a + suc k = omega arith in
     let n : suc k + m ≡ suc (k + m) = omega arith in
     ap (lowest_from p a) n
-    ∙ ap (λ (r : Lowest). elim (p a) [ true ↦ lowest a | false ↦ r ]) (lowest-parts p (suc a) k m ∙ ap (λ (b : ℕ). or_else (lowest_from p (suc a) k) (lowest_from p b m)) e)
+    ∙ ap (λ (r : Option ℕ). elim (p a) [ true ↦ Some a | false ↦ r ]) (lowest-parts p (suc a) k m ∙ ap (λ (b : ℕ). or_else (lowest_from p (suc a) k) (lowest_from p b m)) e)
     ∙ go (p a) (lowest_from p (suc a) k)
   where
-    go : (b : Bool) (x : Lowest) → elim b [ true ↦ lowest a | false ↦ or_else x (lowest_from p (a + suc k) m) ] ≡ or_else (elim b [ true ↦ lowest a | false ↦ x ]) (lowest_from p (a + suc k) m)
+    go : (b : Bool) (x : Option ℕ) → elim b [ true ↦ Some a | false ↦ or_else x (lowest_from p (a + suc k) m) ] ≡ or_else (elim b [ true ↦ Some a | false ↦ x ]) (lowest_from p (a + suc k) m)
     go true x = refl
     go false x = refl
 
@@ -146,11 +147,11 @@ module _ (fires : List ℕ) where
 -- ---- where a part has none, it has none under any number
 
 module _ (listing cover : Said) (says cols : List ℕ) where
-  none_alike : (k at v u : ℕ) (rows : List ℕ) → searched listing cover says cols at k v rows ≡ none → searched listing cover says cols at k u rows ≡ none
+  none_alike : (k at v u : ℕ) (rows : List ℕ) → searched listing cover says cols at k v rows ≡ None → searched listing cover says cols at k u rows ≡ None
   unfolding searched
   none_alike zero at v u rows e = go (fails_over listing cover says rows) e
     where
-      go : (b : Bool) → cond b (lowest v) none ≡ none → cond b (lowest u) none ≡ none
+      go : (b : Bool) → cond b (Some v) None ≡ None → cond b (Some u) None ≡ None
       go true e = absurd (let z : ◌≡◌ {A = ℕ} 0 1 = cc in omega arith)
       go false e = refl
   none_alike (suc k) at v u rows e =
@@ -163,10 +164,10 @@ module _ (listing cover : Said) (says cols : List ℕ) where
       high : List ℕ
       high = kept_words rows cols (at + 7)
 
-      go : (a b : Lowest) (s : Bool) (c d : Lowest) → (a ≡ none → b ≡ none) → (c ≡ none → d ≡ none) → or_else a (cond s none c) ≡ none → or_else b (cond s none d) ≡ none
-      go (lowest x) b s c d f g e = absurd (let z : ◌≡◌ {A = ℕ} 0 1 = cc in omega arith)
-      go none b true c d f g e = rw (f refl)
-      go none b false c d f g e = rw (f refl) (g e)
+      go : (a b : Option ℕ) (s : Bool) (c d : Option ℕ) → (a ≡ None → b ≡ None) → (c ≡ None → d ≡ None) → or_else a (cond s None c) ≡ None → or_else b (cond s None d) ≡ None
+      go (Some x) b s c d f g e = absurd (let z : ◌≡◌ {A = ℕ} 0 1 = cc in omega arith)
+      go None b true c d f g e = rw (f refl)
+      go None b false c d f g e = rw (f refl) (g e)
 
 -- ---- a digit of the numbers of a part
 
@@ -205,14 +206,14 @@ module _ (listing cover : Said) (fires says : List ℕ) where
     abbrev high : List ℕ
     high = words_of (λ r. p r && lets fires j 1 r)
 
-    abbrev first : Lowest
+    abbrev first : Option ℕ
     first = searched listing cover says cols (suc j * 14) k (v * 2) low
 
-    abbrev second : List ℕ → Lowest
+    abbrev second : List ℕ → Option ℕ
     second rows = searched listing cover says cols (suc j * 14) k (v * 2 + 1) rows
 
-    abbrev halves : ℕ → List ℕ → List ℕ → Lowest
-    halves at l h = or_else (searched listing cover says cols at k (v * 2) l) (cond (same_words l h) none (searched listing cover says cols at k (v * 2 + 1) h))
+    abbrev halves : ℕ → List ℕ → List ℕ → Option ℕ
+    halves at l h = or_else (searched listing cover says cols at k (v * 2) l) (cond (same_words l h) None (searched listing cover says cols at k (v * 2 + 1) h))
 
     in_halves : searched listing cover says cols (j * 14) (suc k) v (words_of p) ≡ halves (suc j * 14) low high
     unfolding searched
@@ -223,16 +224,16 @@ module _ (listing cover : Said) (fires says : List ℕ) where
         ap₂ (halves (j * 14 + 14)) (ap (kept_words (words_of p) cols) a ∙ kept-rows fires p j 0 few (omega arith)) (ap (kept_words (words_of p) cols) b ∙ kept-rows fires p j 1 few (omega arith))
         ∙ ap (λ (at : ℕ). halves at low high) n
 
-    alike : same_words low high ≡ true → first ≡ none → second high ≡ none
+    alike : same_words low high ≡ true → first ≡ None → second high ≡ None
     alike e z = ap second (sym (same_rows (λ r. p r && lets fires j 0 r) (λ r. p r && lets fires j 1 r) e)) ∙ none_alike listing cover says cols k (suc j * 14) (v * 2) (v * 2 + 1) low z
 
     both_halves : searched listing cover says cols (j * 14) (suc k) v (words_of p) ≡ or_else first (second high)
     both_halves = in_halves ∙ go (same_words low high) refl first refl
       where
-        go : (b : Bool) → same_words low high ≡ b → (x : Lowest) → first ≡ x → or_else x (cond b none (second high)) ≡ or_else x (second high)
-        go b e (lowest y) f = refl
-        go true e none f = sym (alike e f)
-        go false e none f = refl
+        go : (b : Bool) → same_words low high ≡ b → (x : Option ℕ) → first ≡ x → or_else x (cond b None (second high)) ≡ or_else x (second high)
+        go b e (Some y) f = refl
+        go true e None f = sym (alike e f)
+        go false e None f = refl
 
   -- ---- the whole
 
@@ -240,13 +241,13 @@ module _ (listing cover : Said) (fires says : List ℕ) where
   unfolding searched lowest_from lets_from
   plain zero j v p few =
       let e : v * 1 ≡ v = omega arith in
-      sym (ap (λ (u : ℕ). lowest_from (failing p j zero) u 1) e ∙ go (failing p j zero v) ∙ ap (λ (rows : List ℕ). cond (fails_over listing cover says rows) (lowest v) none) (rows_same _ p (λ r. alone (p r))))
+      sym (ap (λ (u : ℕ). lowest_from (failing p j zero) u 1) e ∙ go (failing p j zero v) ∙ ap (λ (rows : List ℕ). cond (fails_over listing cover says rows) (Some v) None) (rows_same _ p (λ r. alone (p r))))
     where
       alone : (b : Bool) → (b && true) ≡ b
       alone true = refl
       alone false = refl
 
-      go : (b : Bool) → elim b [ true ↦ lowest v | false ↦ none ] ≡ cond b (lowest v) none
+      go : (b : Bool) → elim b [ true ↦ Some v | false ↦ None ] ≡ cond b (Some v) None
       go true = refl
       go false = refl
   plain (suc k) j v p few =

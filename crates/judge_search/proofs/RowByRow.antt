@@ -15,7 +15,6 @@ use Rattle.sets.proofs.Every.{and_first, and_second, and_both, every-at, at_ever
 use Rattle.sets.proofs.Members.{has-lt, has-and, has-none}
 use Rattle.rules.specs.Check.{fault_from}
 use Rattle.rules.specs.Least.{turned}
-use Rattle.rules.specs.declared.Fault.TheVariants.{Nowhere}
 use Rattle.rules.proofs.Checking.{states-nowhere}
 use Rattle.judge_search.specs.Rows.{lets, stands, lets_from, row_fires, words_of, any_from}
 use Rattle.judge_search.specs.Search.{gathered_from, fails_at}
@@ -209,6 +208,6 @@ module _ (fires says : List ℕ) (i s v : ℕ) where
       silent false e f = rw e
 
 -- so that there is no fault
-pub no-fault : (fires says : List ℕ) (i n : ℕ) {b : Bool} → b ≡ row_by_row fires says i → b ≡ true → Nowhere ≡ fault_from (fails_at fires says i) i 0 n
+pub no-fault : (fires says : List ℕ) (i n : ℕ) {b : Bool} → b ≡ row_by_row fires says i → b ≡ true → None ≡ fault_from (fails_at fires says i) i 0 n
 no-fault fires says i n e t =
     sym (states-nowhere (fails_at fires says i) i 0 n (λ s l m v h. rows_agree fires says i s v (sym e ∙ t)))

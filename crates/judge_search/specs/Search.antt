@@ -1,8 +1,7 @@
 -- A search by inputs, from the leftmost on, 0 before 1, that keeps the rows that can still fire; where both halves keep the same rows, one is looked at.
-use Rattle.std.specs.Prelude.{Bool, true, false, ◌&&◌, ◌||◌, not, cond, List, [], ◌∷◌, map, ℕ, zero, suc, ◌+◌, ◌*◌, ◌-◌, ◌/◌, ◌%◌, eqb, get_or}
+use Rattle.std.specs.Prelude.{Bool, true, false, ◌&&◌, ◌||◌, not, cond, List, [], ◌∷◌, map, ℕ, zero, suc, ◌+◌, ◌*◌, ◌-◌, ◌/◌, ◌%◌, eqb, get_or, Option, Some, None}
 use Rattle.std.specs.Int.Bits.{bit_and, bit_or, bit_xor}
 use Rattle.sets.specs.Sets.{has, every, states_from}
-use Rattle.rules.specs.Check.{Lowest, lowest, none}
 use Rattle.rules.specs.Text.{same}
 use Rattle.judge_search.specs.Rows.{row_fires, words_of}
 use Rattle.judge_search.specs.declared.Said.{Said}
@@ -78,23 +77,23 @@ same_words a b = every 7 (λ q. eqb (get_or a q 0) (get_or b q 0))
 
 -- ---- the search
 
-abbrev pub or_else : Lowest → Lowest → Lowest
-or_else (lowest v) other = lowest v
-or_else none other = other
+abbrev pub or_else : Option ℕ → Option ℕ → Option ℕ
+or_else (Some v) other = Some v
+or_else None other = other
 
 -- Of the inputs that begin as the number v says, with k inputs more, the lowest that fails, with what the listing and the cover say already. For each input
 -- more there are fourteen words, from a place on: the rows that let a 0 stand there, and those that let a 1.
-unfoldable pub searched : Said → Said → List ℕ → List ℕ → ℕ → ℕ → ℕ → List ℕ → Lowest
+unfoldable pub searched : Said → Said → List ℕ → List ℕ → ℕ → ℕ → ℕ → List ℕ → Option ℕ
 unfolding fails_over kept_words same_words
-searched l c says cols at zero v rows = cond (fails_over l c says rows) (lowest v) none
+searched l c says cols at zero v rows = cond (fails_over l c says rows) (Some v) None
 searched l c says cols at (suc k) v rows =
     let low : List ℕ = kept_words rows cols at in
     let high : List ℕ = kept_words rows cols (at + 7) in
-    or_else (searched l c says cols (at + 14) k (v * 2) low) (cond (same_words low high) none (searched l c says cols (at + 14) k (v * 2 + 1) high))
+    or_else (searched l c says cols (at + 14) k (v * 2) low) (cond (same_words low high) None (searched l c says cols (at + 14) k (v * 2 + 1) high))
 
-unfoldable pub told : Lowest → Found
-told (lowest v) = Found.At v
-told none = Found.Nothing
+unfoldable pub told : Option ℕ → Found
+told (Some v) = Found.At v
+told None = Found.Nothing
 
 -- ---- what is searched for: at the state s and the inputs that v is as a number, what the rows say that fire
 unfoldable pub fails_at : List ℕ → List ℕ → ℕ → ℕ → ℕ → Bool

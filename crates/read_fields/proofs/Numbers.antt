@@ -1,4 +1,5 @@
 -- A field's number, digit by digit.
+use Rattle.std.specs.Prelude.{Some, None}
 use mathlib.Core.Path.{◌≡◌}
 use mathlib.Core.Bool.{Bool, true, ◌&&◌, cond}
 use mathlib.Core.List.{List}
@@ -11,21 +12,20 @@ use lib.Dec.{leb}
 use borrow.Author.Tests.{leb-true}
 use Rattle.sets.proofs.Every.{and_first, and_second}
 use Rattle.rules.specs.Text.{nought, nine, digits_of, numeral_of}
-use Rattle.rules.specs.declared.Numeral.TheVariants.{Is, Bad}
 use Rattle.read_fields.specs.Fields.{number_shaped}
 use Rattle.read_fields.proofs.Characters.{drop-one}
 
 pub digits_step : (v : ℕ) (l : List ℕ) (i : ℕ) {t : Bool} → i < length l → (leb nought (get_or l i 0) && leb (get_or l i 0) nine) ≡ t
-    → digits_of v (drop i l) ≡ cond t (digits_of (v * 10 + (get_or l i 0 - nought)) (drop (i + 1) l)) Bad
+    → digits_of v (drop i l) ≡ cond t (digits_of (v * 10 + (get_or l i 0 - nought)) (drop (i + 1) l)) None
 unfolding digits_of
 digits_step v l i h e = rw (drop-one l i h, e)
 
-pub digits-end : (v : ℕ) (l : List ℕ) (i : ℕ) → length l ≤ i → digits_of v (drop i l) ≡ Is v
+pub digits-end : (v : ℕ) (l : List ℕ) (i : ℕ) → length l ≤ i → digits_of v (drop i l) ≡ Some v
 unfolding digits_of
 digits-end v l i h = rw (drop_of_length-le l {i = i})
 
 -- a number is made of its digits where it has a number's shape
-pub numeral-shaped : (f : List ℕ) {t : Bool} → number_shaped f ≡ t → numeral_of f ≡ cond t (digits_of 0 f) Bad
+pub numeral-shaped : (f : List ℕ) {t : Bool} → number_shaped f ≡ t → numeral_of f ≡ cond t (digits_of 0 f) None
 unfolding number_shaped numeral_of
 numeral-shaped f e = rw e
 

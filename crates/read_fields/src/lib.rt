@@ -5,7 +5,7 @@ ghost use Rattle.std.specs.Prelude.{◌≡◌, ◌&&◌, ◌||◌, leb, eqb};
 ghost use Rattle.rules.specs.Text.{nought, nine, digit, numeral_of};
 ghost use Rattle.read_fields.specs.Fields.{number_shaped, places_of, places_in, pattern_in};
 
-use rules::{Numeral, Pattern};
+use rules::{Pattern};
 
 // What a field of three kinds of characters says: the places of two of the kinds.
 #[derive(Clone, Copy)]
@@ -121,21 +121,21 @@ fn is_digit(x: u8) -> bool
 }
 
 // What a field says as a number.
-pub fn numeral_of(f: &[u8]) -> Numeral
+pub fn numeral_of(f: &[u8]) -> Option<usize>
     ensures { result ≡ numeral_of f.now }
 {
     if !number_shaped(f) {
-        return Numeral::Bad;
+        return None;
     }
     let mut v: usize = 0;
     let mut i = 0;
     while i < f.len() {
         let x = f[i];
         if !is_digit(x) {
-            return Numeral::Bad;
+            return None;
         }
         v = v * 10 + (x - b'0') as usize;
         i += 1;
     }
-    Numeral::Is(v)
+    Some(v)
 }

@@ -1,4 +1,5 @@
 -- One entry of a flow table, and a line of them.
+use Rattle.std.specs.Prelude.{Option, Ok, Err, Some, None}
 use mathlib.Core.Path.{◌≡◌, refl, sym, ap, ◌∙◌}
 use mathlib.Core.Bool.{Bool, true, false, cond, and-true, and-false}
 use mathlib.Core.List.{List, [], ◌∷◌}
@@ -11,10 +12,7 @@ use Rattle.sets.specs.Sets.{every}
 use Rattle.sets.proofs.Every.{every-at, at_every}
 use Rattle.rules.specs.Text.{bytes, same, fields_of, field_at, numeral_of}
 use Rattle.rules.specs.FlowLines.{entry_of, is_entry, value_of, entry_at, flow_line}
-use Rattle.rules.specs.declared.Numeral.{Numeral}
-use Rattle.rules.specs.declared.Numeral.TheVariants.{Is, Bad}
 use Rattle.rules.specs.declared.Refusal.TheVariants.{BadLine}
-use Rattle.rules.specs.declared.FlowLine.{FlowLine}
 use Rattle.read_flow.specs.Table.{all_entries}
 
 pub same-one : (xs : List ℕ) (a : ℕ) → length xs ≡ 1 → same xs (a ∷ []) ≡ eqb (get_or xs 0 0) a
@@ -24,37 +22,37 @@ same-one (x ∷ []) a h = and-true (eqb x a)
 same-one (x ∷ (y ∷ xs)) a h = absurd (omega arith)
 
 module _ (n : ℕ) (f : List ℕ) where
-  pub entry-dash : same f (bytes "-") ≡ true → entry_of n f ≡ Is 64
+  pub entry-dash : same f (bytes "-") ≡ true → entry_of n f ≡ Some 64
   unfolding entry_of
   entry-dash e = rw e
 
-  pub entry-bad : same f (bytes "-") ≡ false → numeral_of f ≡ Bad → entry_of n f ≡ Bad
+  pub entry-bad : same f (bytes "-") ≡ false → numeral_of f ≡ None → entry_of n f ≡ None
   unfolding entry_of
   entry-bad e q = rw (e, q)
 
-  pub entry-number : {v : ℕ} {b : Bool} → same f (bytes "-") ≡ false → numeral_of f ≡ Is v → ltb v n ≡ b → entry_of n f ≡ cond b (Is v) Bad
+  pub entry-number : {v : ℕ} {b : Bool} → same f (bytes "-") ≡ false → numeral_of f ≡ Some v → ltb v n ≡ b → entry_of n f ≡ cond b (Some v) None
   unfolding entry_of
   entry-number e q l = rw (e, q, l)
 
   -- a state's number, or the dash's
-  pub entry-below : (v : ℕ) → n ≤ 64 → entry_of n f ≡ Is v → v ≤ 64
+  pub entry-below : (v : ℕ) → n ≤ 64 → entry_of n f ≡ Some v → v ≤ 64
   unfolding entry_of
   entry-below v h e = go (same f (bytes "-")) (numeral_of f) e
     where
-      is_same : (a b : ℕ) → Is a ≡ Is b → a ≡ b
+      is_same : (a b : ℕ) → Some a ≡ Some b → a ≡ b
       is_same a b q = cc
 
-      number : (u : ℕ) (b : Bool) → ltb u n ≡ b → cond b (Is u) Bad ≡ Is v → v ≤ 64
+      number : (u : ℕ) (b : Bool) → ltb u n ≡ b → cond b (Some u) None ≡ Some v → v ≤ 64
       number u true l q = omega (arith, is_same u v q, ltb-true u n l)
       number u false l q = absurd (let z : ◌≡◌ {A = ℕ} 0 1 = cc in omega arith)
 
-      go : (b : Bool) (x : Numeral) → cond b (Is 64) (elim x as (λ _. Numeral) [ Is v ↦ cond (ltb v n) (Is v) Bad | Bad ↦ Bad ]) ≡ Is v → v ≤ 64
+      go : (b : Bool) (x : Option ℕ) → cond b (Some 64) (elim x as (λ _. Option ℕ) [ Some v ↦ cond (ltb v n) (Some v) None | None ↦ None ]) ≡ Some v → v ≤ 64
       go true x q = omega (arith, is_same 64 v q)
-      go false (Is u) q = number u (ltb u n) refl q
-      go false Bad q = absurd (let z : ◌≡◌ {A = ℕ} 0 1 = cc in omega arith)
+      go false (Some u) q = number u (ltb u n) refl q
+      go false None q = absurd (let z : ◌≡◌ {A = ℕ} 0 1 = cc in omega arith)
 
 -- what a line says in column c, by what its field says
-pub value-by : (n c : ℕ) (l : List ℕ) {x : Numeral} → entry_of n (field_at l (c + 1)) ≡ x → entry_at n c l ≡ value_of x
+pub value-by : (n c : ℕ) (l : List ℕ) {x : Option ℕ} → entry_of n (field_at l (c + 1)) ≡ x → entry_at n c l ≡ value_of x
 unfolding entry_at
 value-by n c l e = ap value_of e
 
@@ -75,28 +73,28 @@ module _ (n columns : ℕ) (l : List ℕ) where
 
   -- ---- a line
 
-  pub line-none : columns < 1 → flow_line n columns l ≡ FlowLine.Refused BadLine
+  pub line-none : columns < 1 → flow_line n columns l ≡ Err BadLine
   unfolding flow_line
   line-none h = rw (lt-leb _ _ h)
 
-  pub line-many : 1 ≤ columns → 16 < columns → flow_line n columns l ≡ FlowLine.Refused BadLine
+  pub line-many : 1 ≤ columns → 16 < columns → flow_line n columns l ≡ Err BadLine
   unfolding flow_line
   line-many p h = rw (le-leb _ _ p, lt-leb _ _ h)
 
-  pub line-unlike : 1 ≤ columns → columns ≤ 16 → (length (fields_of l) ≡ columns + 1 → ⊥) → flow_line n columns l ≡ FlowLine.Refused BadLine
+  pub line-unlike : 1 ≤ columns → columns ≤ 16 → (length (fields_of l) ≡ columns + 1 → ⊥) → flow_line n columns l ≡ Err BadLine
   unfolding flow_line
   line-unlike p h o = rw (le-leb _ _ p, le-leb _ _ h, ne_eqb _ _ o)
 
-  pub line-like : {b : Bool} → 1 ≤ columns → columns ≤ 16 → length (fields_of l) ≡ columns + 1 → all_entries n columns l ≡ b → flow_line n columns l ≡ cond b FlowLine.Read (FlowLine.Refused BadLine)
+  pub line-like : {b : Bool} → 1 ≤ columns → columns ≤ 16 → length (fields_of l) ≡ columns + 1 → all_entries n columns l ≡ b → flow_line n columns l ≡ cond b (Ok tt) (Err BadLine)
   unfolding flow_line all_entries
   line-like p h e q = rw (le-leb _ _ p, le-leb _ _ h, eq-eqb _ _ e, q)
 
-  line-over : leb columns 16 ≡ false → flow_line n columns l ≡ FlowLine.Refused BadLine
+  line-over : leb columns 16 ≡ false → flow_line n columns l ≡ Err BadLine
   unfolding flow_line
   line-over q = rw (q, and-false (leb 1 columns))
 
   -- a line that is read has a few columns
-  pub line-few : flow_line n columns l ≡ FlowLine.Read → columns ≤ 16
+  pub line-few : flow_line n columns l ≡ (Ok tt) → columns ≤ 16
   line-few e = go (leb columns 16) refl
     where
       go : (b : Bool) → leb columns 16 ≡ b → columns ≤ 16

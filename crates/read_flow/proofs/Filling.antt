@@ -1,4 +1,5 @@
 -- The table while the lines are read: in each column the entries of the lines so far; and what the next line does decides what all of them say.
+use Rattle.std.specs.Prelude.{Result, Ok, Err}
 use mathlib.Core.Path.{◌≡◌, refl, sym, ap, ap₂, subst, ◌∙◌}
 use mathlib.Core.Bool.{true, false, false≢true}
 use mathlib.Core.List.{List, [], ◌∷◌, ◌++◌, map}
@@ -20,8 +21,6 @@ use Rattle.rules.specs.declared.Mark.{Mark}
 use Rattle.rules.specs.declared.Mark.TheVariants.{Mc, Mo, Pt, Di, Ou, Ft, En, Unknown}
 use Rattle.rules.specs.declared.Refusal.{Refusal}
 use Rattle.rules.specs.declared.Refusal.TheVariants.{BadLine, Place}
-use Rattle.rules.specs.declared.FlowLine.{FlowLine}
-use Rattle.rules.specs.declared.EndLine.{EndLine}
 use Rattle.rules.proofs.Ways.{chose-first}
 use Rattle.rules.proofs.Sound.{flow_after, flow-on, flow-last}
 use Rattle.read_pieces.proofs.Laws.{part, Cut, split-some}
@@ -143,7 +142,7 @@ stops-not-ends r e = let z : ◌≡◌ {A = ℕ} 0 1 = cc in omega arith
 -- a line that goes on is one of the states', and is read
 record GoesOn (k n columns : ℕ) (l : List ℕ) : Type 0 where
   early : k ≤ n + 1
-  is_read : flow_line n columns l ≡ FlowLine.Read
+  is_read : flow_line n columns l ≡ (Ok tt)
 
 goes_by : (m : Mark) (k n columns : ℕ) (l : List ℕ) → flow_placed m k n ≡ true → flow_does m n columns l ≡ flow_goes → GoesOn k n columns l
 unfolding flow_placed flow_does
@@ -154,14 +153,14 @@ goes_by Di k n columns l p e = absurd (false≢true p)
 goes_by Ou k n columns l p e = absurd (false≢true p)
 goes_by Ft k n columns l p e = record { early = leb-true k (n + 1) p; is_read = on (flow_line n columns l) e }
   where
-    on : (x : FlowLine) → on_flow x ≡ flow_goes → x ≡ FlowLine.Read
-    on FlowLine.Read q = refl
-    on (FlowLine.Refused r) q = absurd (stops-not-goes r q)
+    on : (x : Result Unit Refusal) → on_flow x ≡ flow_goes → x ≡ (Ok tt)
+    on (Ok tt) q = refl
+    on (Err r) q = absurd (stops-not-goes r q)
 goes_by En k n columns l p e = absurd (on (end_line l) e)
   where
-    on : (x : EndLine) → on_flow_end x ≡ flow_goes → ⊥
-    on EndLine.Read q = let z : ◌≡◌ {A = ℕ} 0 1 = cc in omega arith
-    on (EndLine.Refused r) q = stops-not-goes r q
+    on : (x : Result Unit Refusal) → on_flow_end x ≡ flow_goes → ⊥
+    on (Ok tt) q = let z : ◌≡◌ {A = ℕ} 0 1 = cc in omega arith
+    on (Err r) q = stops-not-goes r q
 goes_by Unknown k n columns l p e = absurd (stops-not-goes BadLine e)
 
 ends_by : (m : Mark) (k n columns : ℕ) (l : List ℕ) → flow_placed m k n ≡ true → flow_does m n columns l ≡ flow_ends → n + 2 ≤ k
@@ -173,9 +172,9 @@ ends_by Di k n columns l p e = absurd (false≢true p)
 ends_by Ou k n columns l p e = absurd (false≢true p)
 ends_by Ft k n columns l p e = absurd (on (flow_line n columns l) e)
   where
-    on : (x : FlowLine) → on_flow x ≡ flow_ends → ⊥
-    on FlowLine.Read q = let z : ◌≡◌ {A = ℕ} 0 1 = cc in omega arith
-    on (FlowLine.Refused r) q = stops-not-ends r q
+    on : (x : Result Unit Refusal) → on_flow x ≡ flow_ends → ⊥
+    on (Ok tt) q = let z : ◌≡◌ {A = ℕ} 0 1 = cc in omega arith
+    on (Err r) q = stops-not-ends r q
 ends_by En k n columns l p e = leb-true (n + 2) k p
 ends_by Unknown k n columns l p e = absurd (stops-not-ends BadLine e)
 

@@ -1,4 +1,6 @@
 -- What one line says of the table is what it does by the rules.
+use Rattle.rules.specs.declared.Refusal.{Refusal}
+use Rattle.std.specs.Prelude.{Result, Ok, Err}
 use mathlib.Core.Path.{◌≡◌, refl}
 use mathlib.Core.Bool.{Bool, true, false, cond}
 use mathlib.Core.List.{List}
@@ -8,18 +10,16 @@ use Rattle.rules.specs.FlowLines.{flow_stops, on_flow, on_flow_end, flow_placed,
 use Rattle.rules.specs.Listing.{flow_step}
 use Rattle.rules.specs.declared.Mark.{Mark}
 use Rattle.rules.specs.declared.Refusal.TheVariants.{Place}
-use Rattle.rules.specs.declared.FlowLine.{FlowLine}
-use Rattle.rules.specs.declared.EndLine.{EndLine}
 use Rattle.read_flow.specs.declared.says.Said.{Said}
 use Rattle.read_flow.specs.Flows.{said_of, line_says, end_says}
 
-pub line_step : (x : FlowLine) → line_says x ≡ said_of (on_flow x)
-line_step FlowLine.Read = refl
-line_step (FlowLine.Refused r) = refl
+pub line_step : (x : Result Unit Refusal) → line_says x ≡ said_of (on_flow x)
+line_step (Ok tt) = refl
+line_step (Err r) = refl
 
-pub end_step : (x : EndLine) → end_says x ≡ said_of (on_flow_end x)
-end_step EndLine.Read = refl
-end_step (EndLine.Refused r) = refl
+pub end_step : (x : Result Unit Refusal) → end_says x ≡ said_of (on_flow_end x)
+end_step (Ok tt) = refl
+end_step (Err r) = refl
 
 -- by the mark, and whether it is in its place
 pub said-placed : (k n columns : ℕ) (l : List ℕ) {m : Mark} {b : Bool} → m ≡ mark_is (mark_of l) → flow_placed m k n ≡ b

@@ -1,5 +1,5 @@
 -- What the reader of a flow table answers: of a reading, its verdict and its dichotomies; and what one line says of the table.
-use Rattle.std.specs.Prelude.{◌&&◌, cond, List, ℕ, ◌+◌, leb}
+use Rattle.std.specs.Prelude.{◌&&◌, cond, List, ℕ, ◌+◌, leb, Result, Ok, Err}
 use Rattle.rules.specs.Limits.{most_states, most_dichotomies}
 use Rattle.rules.specs.Text.{lines_of}
 use Rattle.rules.specs.FlowLines.{FlowStep, flow_goes, flow_ends, flow_stops}
@@ -8,8 +8,6 @@ use Rattle.rules.specs.declared.Head.{Head}
 use Rattle.rules.specs.declared.Refusal.{Refusal}
 use Rattle.rules.specs.declared.Refusal.TheVariants.{BadLine, Limit, Place}
 use Rattle.rules.specs.declared.Verdict.{Verdict}
-use Rattle.rules.specs.declared.FlowLine.{FlowLine}
-use Rattle.rules.specs.declared.EndLine.{EndLine}
 use Rattle.rules.specs.declared.Reading.{Reading}
 use Rattle.read_flow.specs.declared.Flow.{Flow}
 use Rattle.read_flow.specs.declared.asks.Gathered.{Gathered}
@@ -41,19 +39,19 @@ said_of flow_goes = Said.Line
 said_of flow_ends = Said.End
 said_of (flow_stops r) = Said.Refused r
 
-abbrev pub line_says : FlowLine → Said
-line_says FlowLine.Read = Said.Line
-line_says (FlowLine.Refused r) = Said.Refused r
+abbrev pub line_says : Result Unit Refusal → Said
+line_says (Ok tt) = Said.Line
+line_says (Err r) = Said.Refused r
 
-abbrev pub end_says : EndLine → Said
-end_says EndLine.Read = Said.End
-end_says (EndLine.Refused r) = Said.Refused r
+abbrev pub end_says : Result Unit Refusal → Said
+end_says (Ok tt) = Said.End
+end_says (Err r) = Said.Refused r
 
 -- why a line is refused; 1 for one that was read
-abbrev pub flow_reason : FlowLine → Refusal
-flow_reason FlowLine.Read = BadLine
-flow_reason (FlowLine.Refused r) = r
+abbrev pub flow_reason : Result Unit Refusal → Refusal
+flow_reason (Ok tt) = BadLine
+flow_reason (Err r) = r
 
-abbrev pub end_reason : EndLine → Refusal
-end_reason EndLine.Read = BadLine
-end_reason (EndLine.Refused r) = r
+abbrev pub end_reason : Result Unit Refusal → Refusal
+end_reason (Ok tt) = BadLine
+end_reason (Err r) = r

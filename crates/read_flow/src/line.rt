@@ -5,7 +5,7 @@ ghost use Rattle.rules.specs.Text.{bytes, same, field_at};
 ghost use Rattle.rules.specs.FlowLines.{entry_of, is_entry, entry_at, flow_line};
 ghost use Rattle.read_flow.specs.Table.{all_entries, blank_table, store_from};
 
-use rules::{FlowLine, Numeral, Refusal};
+use rules::{Refusal};
 
 // The places of a table: 64 for each of 16 columns.
 pub const PLACES: usize = 1024;
@@ -20,20 +20,20 @@ fn is_dash(f: &[u8]) -> bool
 }
 
 // What a field says as an entry: a state number below n, or a dash, which has the number that no state has.
-fn entry_of(n: usize, f: &[u8]) -> Numeral
+fn entry_of(n: usize, f: &[u8]) -> Option<usize>
     ensures { result ≡ entry_of n f.now }
 {
     if is_dash(f) {
-        return Numeral::Is(rules::MOST_STATES);
+        return Some(rules::MOST_STATES);
     }
     let got = read_fields::numeral_of(f);
-    let Numeral::Is(v) = got else {
-        return Numeral::Bad;
+    let Some(v) = got else {
+        return None;
     };
     if n <= v {
-        return Numeral::Bad;
+        return None;
     }
-    Numeral::Is(v)
+    Some(v)
 }
 
 // Whether column c of a line has an entry.
@@ -43,8 +43,8 @@ fn has_entry(n: usize, l: &[u8], c: usize) -> bool
 {
     let got = entry_of(n, read_pieces::field(l, c + 1));
     match got {
-        Numeral::Is(_) => true,
-        Numeral::Bad => false,
+        Some(_) => true,
+        None => false,
     }
 }
 
@@ -64,22 +64,22 @@ fn all_entries(n: usize, columns: usize, l: &[u8]) -> bool
 }
 
 // What a line of so many columns says, of n states.
-pub fn flow_line(n: usize, columns: usize, l: &[u8]) -> FlowLine
+pub fn flow_line(n: usize, columns: usize, l: &[u8]) -> Result<(), Refusal>
     ensures { result ≡ flow_line n columns l.now }
 {
     if columns < 1 {
-        return FlowLine::Refused(Refusal::BadLine);
+        return Err(Refusal::BadLine);
     }
     if rules::MOST_COLUMNS < columns {
-        return FlowLine::Refused(Refusal::BadLine);
+        return Err(Refusal::BadLine);
     }
     if read_pieces::field_count(l) != columns + 1 {
-        return FlowLine::Refused(Refusal::BadLine);
+        return Err(Refusal::BadLine);
     }
     if !all_entries(n, columns, l) {
-        return FlowLine::Refused(Refusal::BadLine);
+        return Err(Refusal::BadLine);
     }
-    FlowLine::Read
+    Ok(())
 }
 
 // The entry of a line in column c; a dash where it has none.
@@ -89,8 +89,8 @@ fn value_at(n: usize, l: &[u8], c: usize) -> u8
 {
     let got = entry_of(n, read_pieces::field(l, c + 1));
     match got {
-        Numeral::Is(v) => v as u8,
-        Numeral::Bad => rules::NO_STATE,
+        Some(v) => v as u8,
+        None => rules::NO_STATE,
     }
 }
 

@@ -6,7 +6,7 @@ ghost use Rattle.rules.specs.Lines.{end_line};
 ghost use Rattle.rules.specs.Listing.{flow_step};
 ghost use Rattle.read_flow.specs.Flows.{said_of, line_says, end_says, flow_reason, end_reason};
 
-use rules::{EndLine, FlowLine, Mark, Refusal};
+use rules::{Mark, Refusal};
 
 #[derive(Clone, Copy)]
 pub enum Said {
@@ -16,12 +16,12 @@ pub enum Said {
 }
 
 // Why a line is refused; 1 for one that was read.
-fn line_reason(got: FlowLine) -> Refusal
+fn line_reason(got: Result<(), Refusal>) -> Refusal
     ensures { result ≡ flow_reason got }
 {
     match got {
-        FlowLine::Refused(r) => r,
-        FlowLine::Read => Refusal::BadLine,
+        Err(r) => r,
+        Ok(()) => Refusal::BadLine,
     }
 }
 
@@ -29,18 +29,18 @@ fn entries_said(n: usize, columns: usize, l: &[u8]) -> Said
     ensures { result ≡ line_says (flow_line n columns l.now) }
 {
     let got = super::line::flow_line(n, columns, l);
-    let FlowLine::Read = got else {
+    let Ok(()) = got else {
         return Said::Refused(line_reason(got));
     };
     Said::Line
 }
 
-fn end_reason(got: EndLine) -> Refusal
+fn end_reason(got: Result<(), Refusal>) -> Refusal
     ensures { result ≡ end_reason got }
 {
     match got {
-        EndLine::Refused(r) => r,
-        EndLine::Read => Refusal::BadLine,
+        Err(r) => r,
+        Ok(()) => Refusal::BadLine,
     }
 }
 
@@ -48,7 +48,7 @@ fn end_said(l: &[u8]) -> Said
     ensures { result ≡ end_says (end_line l.now) }
 {
     let got = read_marks::end_line(l);
-    let EndLine::Read = got else {
+    let Ok(()) = got else {
         return Said::Refused(end_reason(got));
     };
     Said::End

@@ -1,4 +1,6 @@
 -- What a line says, done to a draft, is what the rules do; and the names that it says stand in the line.
+use Rattle.rules.specs.declared.Refusal.{Refusal}
+use Rattle.std.specs.Prelude.{Result, Option, Ok, Err, Some, None}
 use mathlib.Core.Path.{◌≡◌, refl, ap, ap₂}
 use mathlib.Core.Bool.{Bool, true, false, ◌&&◌, cond}
 use mathlib.Core.List.{List, [], ◌∷◌}
@@ -15,9 +17,6 @@ use Rattle.rules.specs.Kiss.{Draft, KissStep, goes, ends, stops, with_heads, wit
 use Rattle.rules.specs.Kiss.{on_number, inputs_do, outputs_do, reset_does, end_does, row_line_does, kiss_placed, kiss_does, kiss_step}
 use Rattle.rules.specs.declared.KissHeads.{KissHeads}
 use Rattle.rules.specs.declared.KissMark.{KissMark}
-use Rattle.rules.specs.declared.Numeral.{Numeral}
-use Rattle.rules.specs.declared.Numeral.TheVariants.{Is, Bad}
-use Rattle.rules.specs.declared.EndLine.{EndLine}
 use Rattle.rules.specs.declared.Refusal.TheVariants.{BadLine, Limit, Place, Names}
 use Rattle.read_kiss_lines.specs.Says.{inputs_told, outputs_told, told, heads_line, field_piece, reset_line, kiss_end_line, state_pieces, kiss_row_line}
 use Rattle.read_kiss_lines.specs.declared.heads.HeadsLine.{HeadsLine}
@@ -46,9 +45,9 @@ heads-within : (n : ℕ) (x : HeadsLine) → Within n (heads_says x)
 heads-within n (HeadsLine.Read h) = tt
 heads-within n (HeadsLine.Refused r) = tt
 
-end-within : (n : ℕ) (x : EndLine) → Within n (end_says x)
-end-within n EndLine.Read = tt
-end-within n (EndLine.Refused r) = tt
+end-within : (n : ℕ) (x : Result Unit Refusal) → Within n (end_says x)
+end-within n (Ok tt) = tt
+end-within n (Err r) = tt
 
 -- how many fields a good line has
 reset-two : (l : List ℕ) → reset_fits l ≡ true → length (fields_of l) ≡ 2
@@ -105,25 +104,25 @@ module _ (l : List ℕ) (k : ℕ) (d : Draft) where
   cond_step true h = refl
   cond_step false h = refl
 
-  inputs-step : (x : Numeral) → step_of l k (heads_says (heads_line KissMark.Inputs k d.heads x)) d ≡ on_number x (inputs_do d)
+  inputs-step : (x : Option ℕ) → step_of l k (heads_says (heads_line KissMark.Inputs k d.heads x)) d ≡ on_number x (inputs_do d)
   unfolding heads_line told inputs_told inputs_do
-  inputs-step (Is n) = cond_step (leb 1 n && leb n most_inputs) (with_inputs n d.heads)
-  inputs-step Bad = refl
+  inputs-step (Some n) = cond_step (leb 1 n && leb n most_inputs) (with_inputs n d.heads)
+  inputs-step None = refl
 
-  outputs-step : (x : Numeral) → step_of l k (heads_says (heads_line KissMark.Outputs k d.heads x)) d ≡ on_number x (outputs_do d)
+  outputs-step : (x : Option ℕ) → step_of l k (heads_says (heads_line KissMark.Outputs k d.heads x)) d ≡ on_number x (outputs_do d)
   unfolding heads_line told outputs_told outputs_do
-  outputs-step (Is n) = cond_step (leb 1 n && leb n most_outputs) (with_outputs n d.heads)
-  outputs-step Bad = refl
+  outputs-step (Some n) = cond_step (leb 1 n && leb n most_outputs) (with_outputs n d.heads)
+  outputs-step None = refl
 
-  states-step : (x : Numeral) → step_of l k (heads_says (heads_line KissMark.States k d.heads x)) d ≡ on_number x (λ n. goes (with_heads (with_states (record { number = n; line = k }) d.heads) d))
+  states-step : (x : Option ℕ) → step_of l k (heads_says (heads_line KissMark.States k d.heads x)) d ≡ on_number x (λ n. goes (with_heads (with_states (record { number = n; line = k }) d.heads) d))
   unfolding heads_line told
-  states-step (Is n) = refl
-  states-step Bad = refl
+  states-step (Some n) = refl
+  states-step None = refl
 
-  products-step : (x : Numeral) → step_of l k (heads_says (heads_line KissMark.Products k d.heads x)) d ≡ on_number x (λ n. goes (with_heads (with_products (record { number = n; line = k }) d.heads) d))
+  products-step : (x : Option ℕ) → step_of l k (heads_says (heads_line KissMark.Products k d.heads x)) d ≡ on_number x (λ n. goes (with_heads (with_products (record { number = n; line = k }) d.heads) d))
   unfolding heads_line told
-  products-step (Is n) = refl
-  products-step Bad = refl
+  products-step (Some n) = refl
+  products-step None = refl
 
   reset-step : step_of l k (reset_says (reset_line l)) d ≡ reset_does d l
   unfolding reset_line reset_does
@@ -140,7 +139,7 @@ module _ (l : List ℕ) (k : ℕ) (d : Draft) where
   unfolding kiss_end_line end_does
   end_step = go (eqb (length (fields_of l)) 1) (eqb (length d.names) 0)
     where
-      go : (b c : Bool) → step_of l k (end_says (cond b (cond c (EndLine.Refused Limit) EndLine.Read) (EndLine.Refused BadLine))) d ≡ cond b (cond c (stops Limit) ends) (stops BadLine)
+      go : (b c : Bool) → step_of l k (end_says (cond b (cond c (Err Limit) (Ok tt)) (Err BadLine))) d ≡ cond b (cond c (stops Limit) ends) (stops BadLine)
       go true true = refl
       go true false = refl
       go false c = refl
@@ -195,25 +194,25 @@ limit-counts : (g h : KissHeads) (b : Bool) → h.lines ≡ g.lines → Counts g
 limit-counts g h true e = e
 limit-counts g h false e = tt
 
-number_counts : (m : KissMark) (k : ℕ) (g : KissHeads) (x : Numeral) → Counts g (heads_says (heads_line m k g x))
+number_counts : (m : KissMark) (k : ℕ) (g : KissHeads) (x : Option ℕ) → Counts g (heads_says (heads_line m k g x))
 unfolding heads_line told inputs_told outputs_told
-number_counts KissMark.Inputs k g (Is n) = limit-counts g (with_inputs n g) (leb 1 n && leb n most_inputs) refl
-number_counts KissMark.Outputs k g (Is n) = limit-counts g (with_outputs n g) (leb 1 n && leb n most_outputs) refl
-number_counts KissMark.States k g (Is n) = refl
-number_counts KissMark.Products k g (Is n) = refl
-number_counts KissMark.Reset k g (Is n) = tt
-number_counts KissMark.End k g (Is n) = tt
-number_counts KissMark.Unknown k g (Is n) = tt
-number_counts KissMark.Row k g (Is n) = tt
-number_counts m k g Bad = tt
+number_counts KissMark.Inputs k g (Some n) = limit-counts g (with_inputs n g) (leb 1 n && leb n most_inputs) refl
+number_counts KissMark.Outputs k g (Some n) = limit-counts g (with_outputs n g) (leb 1 n && leb n most_outputs) refl
+number_counts KissMark.States k g (Some n) = refl
+number_counts KissMark.Products k g (Some n) = refl
+number_counts KissMark.Reset k g (Some n) = tt
+number_counts KissMark.End k g (Some n) = tt
+number_counts KissMark.Unknown k g (Some n) = tt
+number_counts KissMark.Row k g (Some n) = tt
+number_counts m k g None = tt
 
 reset-counts : (g : KissHeads) (x : ResetLine) → Counts g (reset_says x)
 reset-counts g (ResetLine.Read p) = tt
 reset-counts g (ResetLine.Refused r) = tt
 
-end-counts : (g : KissHeads) (x : EndLine) → Counts g (end_says x)
-end-counts g EndLine.Read = tt
-end-counts g (EndLine.Refused r) = tt
+end-counts : (g : KissHeads) (x : Result Unit Refusal) → Counts g (end_says x)
+end-counts g (Ok tt) = tt
+end-counts g (Err r) = tt
 
 row_counts : (g : KissHeads) (x : KissRowLine) → Counts g (row_says x)
 row_counts g (KissRowLine.Read row) = tt

@@ -1,5 +1,6 @@
 -- What one line says, and what that does to a draft, with names as places in the line or in the text.
-use Rattle.std.specs.Prelude.{cond, List, [], ◌∷◌, ℕ, ◌+◌, ◌<◌, replicate}
+use Rattle.rules.specs.declared.Refusal.{Refusal}
+use Rattle.std.specs.Prelude.{cond, List, [], ◌∷◌, ℕ, ◌+◌, ◌<◌, replicate, Result, Ok, Err}
 use Rattle.rules.specs.Limits.{most_rows}
 use Rattle.rules.specs.Text.{mark_of}
 use Rattle.rules.specs.Listing.{no_row}
@@ -7,7 +8,6 @@ use Rattle.rules.specs.KissLines.{kiss_mark, number_line}
 use Rattle.rules.specs.Kiss.{Draft as Drafted, KissStep, goes, ends, stops, no_heads, with_heads, with_reset, row_does, kiss_placed}
 use Rattle.rules.specs.declared.KissHeads.{KissHeads}
 use Rattle.rules.specs.declared.KissMark.{KissMark}
-use Rattle.rules.specs.declared.EndLine.{EndLine}
 use Rattle.rules.specs.declared.Refusal.TheVariants.{BadLine, Place}
 use Rattle.read_names.specs.Names.{piece_of, no_names, with_name}
 use Rattle.read_names.specs.declared.Piece.{Piece}
@@ -33,9 +33,9 @@ abbrev pub row_says : KissRowLine → Said
 row_says (KissRowLine.Read row) = Said.Row row
 row_says (KissRowLine.Refused r) = Said.Refused r
 
-abbrev pub end_says : EndLine → Said
-end_says EndLine.Read = Said.End
-end_says (EndLine.Refused r) = Said.Refused r
+abbrev pub end_says : Result Unit Refusal → Said
+end_says (Ok tt) = Said.End
+end_says (Err r) = Said.Refused r
 
 -- line k, in its place, behind so many names
 unfoldable pub placed_says : KissMark → ℕ → KissHeads → ℕ → List ℕ → Said

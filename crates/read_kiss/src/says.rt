@@ -6,7 +6,7 @@ use read_kiss_lines::heads::HeadsLine;
 use read_kiss_lines::row::{KissRow, KissRowLine};
 use read_kiss_lines::states::ResetLine;
 use read_names::Piece;
-use rules::{EndLine, KissHeads, KissMark, Refusal};
+use rules::{KissHeads, KissMark, Refusal};
 
 // A line gives the headers anew, the name of `.r`, or a row, ends the text, or is refused.
 #[derive(Clone, Copy)]
@@ -45,12 +45,12 @@ fn row_said(got: KissRowLine) -> Said
     }
 }
 
-fn end_said(got: EndLine) -> Said
+fn end_said(got: Result<(), Refusal>) -> Said
     ensures { result ≡ end_says got }
 {
     match got {
-        EndLine::Read => Said::End,
-        EndLine::Refused(r) => Said::Refused(r),
+        Ok(()) => Said::End,
+        Err(r) => Said::Refused(r),
     }
 }
 

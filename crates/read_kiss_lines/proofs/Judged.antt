@@ -1,4 +1,5 @@
 -- Marks, headers and names, judged one test after the other.
+use Rattle.std.specs.Prelude.{Ok, Err, None}
 use mathlib.Core.Path.{◌≡◌, refl}
 use mathlib.Core.Bool.{Bool, false, ◌&&◌, not, cond}
 use mathlib.Core.List.{List, [], ◌∷◌}
@@ -11,8 +12,6 @@ use Rattle.rules.specs.Limits.{most_name}
 use Rattle.rules.specs.Text.{bytes, same, dot, fields_of, field_at, numeral_of}
 use Rattle.rules.specs.KissLines.{dotted, kiss_mark, number_line, is_star, is_filled, is_short, reset_fits}
 use Rattle.rules.specs.declared.KissMark.{KissMark}
-use Rattle.rules.specs.declared.Numeral.TheVariants.{Bad}
-use Rattle.rules.specs.declared.EndLine.{EndLine}
 use Rattle.rules.specs.declared.Refusal.TheVariants.{BadLine, Limit, Names}
 use Rattle.read_kiss_lines.specs.Says.{mark_else, field_piece, reset_line, kiss_end_line}
 use Rattle.read_kiss_lines.specs.declared.states.ResetLine.{ResetLine}
@@ -39,7 +38,7 @@ mark-by f a b c d g h = rw (a, b, c, d, g, h)
 -- ---- one number
 
 module _ (l : List ℕ) where
-  pub number-count : (length (fields_of l) ≡ 2 → ⊥) → number_line l ≡ Bad
+  pub number-count : (length (fields_of l) ≡ 2 → ⊥) → number_line l ≡ None
   unfolding number_line
   number-count n = rw (ne_eqb _ 2 n)
 
@@ -55,7 +54,7 @@ unfolding reset_line reset_fits
 reset_by l a b s t = rw (a, b, s, t)
 
 pub end_by : (count : ℕ) (l : List ℕ) {a b : Bool} → eqb (length (fields_of l)) 1 ≡ a → eqb count 0 ≡ b
-    → kiss_end_line count l ≡ cond a (cond b (EndLine.Refused Limit) EndLine.Read) (EndLine.Refused BadLine)
+    → kiss_end_line count l ≡ cond a (cond b (Err Limit) (Ok tt)) (Err BadLine)
 unfolding kiss_end_line
 end_by count l a b = rw (a, b)
 

@@ -1,5 +1,6 @@
 -- What the readers of one line answer beside `rules`: enums of what a line says, with names as places in the line.
-use Rattle.std.specs.Prelude.{◌&&◌, cond, List, ℕ, zero, suc, ◌+◌, length, leb, eqb}
+use Rattle.rules.specs.declared.Refusal.{Refusal}
+use Rattle.std.specs.Prelude.{◌&&◌, cond, List, ℕ, zero, suc, ◌+◌, length, leb, eqb, Result, Option, Ok, Err, Some, None}
 use Rattle.rules.specs.Limits.{most_inputs, most_outputs}
 use Rattle.rules.specs.Text.{space, split, fields_of, field_at, set_of}
 use Rattle.rules.specs.KissLines.{dotted, is_filled, is_short, reset_fits, row_fields_fit}
@@ -7,9 +8,6 @@ use Rattle.rules.specs.Kiss.{with_inputs, with_outputs, with_states, with_produc
 use Rattle.rules.specs.declared.KissHeads.{KissHeads}
 use Rattle.rules.specs.declared.KissMark.{KissMark}
 use Rattle.rules.specs.declared.Pattern.{Pattern}
-use Rattle.rules.specs.declared.Numeral.{Numeral}
-use Rattle.rules.specs.declared.Numeral.TheVariants.{Is, Bad}
-use Rattle.rules.specs.declared.EndLine.{EndLine}
 use Rattle.rules.specs.declared.Refusal.TheVariants.{BadLine, Limit, Names}
 use Rattle.read_pieces.specs.Pieces.{end_of}
 use Rattle.read_names.specs.declared.Piece.{Piece}
@@ -43,10 +41,10 @@ told KissMark.End k h n = HeadsLine.Refused BadLine
 told KissMark.Unknown k h n = HeadsLine.Refused BadLine
 told KissMark.Row k h n = HeadsLine.Refused BadLine
 
-unfoldable pub heads_line : KissMark → ℕ → KissHeads → Numeral → HeadsLine
+unfoldable pub heads_line : KissMark → ℕ → KissHeads → Option ℕ → HeadsLine
 unfolding told
-heads_line m k h (Is n) = told m k h n
-heads_line m k h Bad = HeadsLine.Refused BadLine
+heads_line m k h (Some n) = told m k h n
+heads_line m k h None = HeadsLine.Refused BadLine
 
 -- ---- places of fields
 
@@ -66,9 +64,9 @@ unfoldable pub reset_line : List ℕ → ResetLine
 unfolding split reset_fits is_short field_piece
 reset_line l = cond (reset_fits l) (cond (is_short (field_at l 1)) (ResetLine.Read (field_piece l 1)) (ResetLine.Refused Names)) (ResetLine.Refused BadLine)
 
-unfoldable pub kiss_end_line : ℕ → List ℕ → EndLine
+unfoldable pub kiss_end_line : ℕ → List ℕ → Result Unit Refusal
 unfolding split
-kiss_end_line count l = cond (eqb (length (fields_of l)) 1) (cond (eqb count 0) (EndLine.Refused Limit) EndLine.Read) (EndLine.Refused BadLine)
+kiss_end_line count l = cond (eqb (length (fields_of l)) 1) (cond (eqb count 0) (Err Limit) (Ok tt)) (Err BadLine)
 
 -- ---- rows
 

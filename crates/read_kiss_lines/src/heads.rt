@@ -4,7 +4,7 @@ ghost use Rattle.rules.specs.KissLines.{number_line};
 ghost use Rattle.rules.specs.Kiss.{kiss_placed};
 ghost use Rattle.read_kiss_lines.specs.Says.{inputs_told, outputs_told, told, heads_line};
 
-use rules::{KissHeads, KissMark, Numeral, Refusal, Told};
+use rules::{KissHeads, KissMark, Refusal, Told};
 
 // What a reader of one header answers: the headers with it, or the refusal.
 #[derive(Clone, Copy)]
@@ -14,11 +14,11 @@ pub enum HeadsLine {
 }
 
 // The one number behind the mark.
-fn number_line(l: &[u8]) -> Numeral
+fn number_line(l: &[u8]) -> Option<usize>
     ensures { result ≡ number_line l.now }
 {
     if read_pieces::field_count(l) != 2 {
-        return Numeral::Bad;
+        return None;
     }
     read_fields::numeral_of(read_pieces::field(l, 1))
 }
@@ -89,7 +89,7 @@ fn number_told(mark: KissMark, k: usize, h: KissHeads, n: usize) -> HeadsLine
 pub fn heads_line(mark: KissMark, k: usize, h: KissHeads, l: &[u8]) -> HeadsLine
     ensures { result ≡ heads_line mark k h (number_line l.now) }
 {
-    let Numeral::Is(n) = number_line(l) else {
+    let Some(n) = number_line(l) else {
         return HeadsLine::Refused(Refusal::BadLine);
     };
     number_told(mark, k, h, n)

@@ -5,7 +5,7 @@ ghost use Rattle.read_kiss_lines.specs.Says.{reset_line, kiss_end_line};
 
 use read_names::Piece;
 use read_pieces::{cut, field, field_count};
-use rules::{EndLine, Refusal};
+use rules::{Refusal};
 
 // What a reader of an `.r` line answers: where the name stands in the line, or the refusal.
 #[derive(Clone, Copy)]
@@ -46,14 +46,14 @@ pub fn reset_line(l: &[u8]) -> ResetLine
 }
 
 // `.e`, behind so many names.
-pub fn end_line(count: usize, l: &[u8]) -> EndLine
+pub fn end_line(count: usize, l: &[u8]) -> Result<(), Refusal>
     ensures { result ≡ kiss_end_line count l.now }
 {
     if field_count(l) != 1 {
-        return EndLine::Refused(Refusal::BadLine);
+        return Err(Refusal::BadLine);
     }
     if count == 0 {
-        return EndLine::Refused(Refusal::Limit);
+        return Err(Refusal::Limit);
     }
-    EndLine::Read
+    Ok(())
 }

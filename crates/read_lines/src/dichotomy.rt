@@ -4,15 +4,15 @@ ghost use Rattle.rules.specs.Lines.{dichotomy_line};
 
 use read_fields::Places;
 use read_pieces::{behind, cut};
-use rules::{DichotomyLine, Head, Refusal, Requirement};
+use rules::{Head, Refusal, Requirement};
 
 // What a `DI` line says, behind `count` dichotomies.
-pub fn dichotomy_line(h: Head, count: usize, l: &[u8]) -> DichotomyLine
+pub fn dichotomy_line(h: Head, count: usize, l: &[u8]) -> Result<Requirement, Refusal>
     ensures { result ≡ dichotomy_line h count l.now }
 {
     let mark = cut(l, 0, b' ');
     if l.len() <= mark {
-        return DichotomyLine::Refused(Refusal::BadLine);
+        return Err(Refusal::BadLine);
     }
     let Places::Read(first, second) = read_fields::places_in(
         behind(l, mark),
@@ -22,12 +22,12 @@ pub fn dichotomy_line(h: Head, count: usize, l: &[u8]) -> DichotomyLine
         b'+',
         b'-',
     ) else {
-        return DichotomyLine::Refused(Refusal::BadLine);
+        return Err(Refusal::BadLine);
     };
     if rules::MOST_DICHOTOMIES <= count {
-        return DichotomyLine::Refused(Refusal::Limit);
+        return Err(Refusal::Limit);
     }
-    DichotomyLine::Read(Requirement {
+    Ok(Requirement {
         first: first,
         second: second,
     })

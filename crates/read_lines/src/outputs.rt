@@ -5,36 +5,36 @@ ghost use Rattle.rules.specs.Listing.{had_outputs};
 
 use read_fields::PatternField;
 use read_pieces::{field, field_count};
-use rules::{Head, Numeral, OutputsLine, Refusal, StateNumber};
+use rules::{Head, Refusal, StateNumber, StateOutputs};
 
 // What an `OU` line says.
-pub fn outputs_line(h: Head, l: &[u8]) -> OutputsLine
+pub fn outputs_line(h: Head, l: &[u8]) -> Result<StateOutputs, Refusal>
     ensures { result ≡ outputs_line h l.now }
 {
     if field_count(l) != 3 {
-        return OutputsLine::Refused(Refusal::BadLine);
+        return Err(Refusal::BadLine);
     }
     let PatternField::Read(outputs) = read_fields::pattern_in(
         field(l, 2),
         rules::MOST_OUTPUTS,
         h.outputs,
     ) else {
-        return OutputsLine::Refused(Refusal::BadLine);
+        return Err(Refusal::BadLine);
     };
-    let Numeral::Is(s) = read_fields::numeral_of(field(l, 1)) else {
-        return OutputsLine::Refused(Refusal::BadLine);
+    let Some(s) = read_fields::numeral_of(field(l, 1)) else {
+        return Err(Refusal::BadLine);
     };
     if h.states <= s {
-        return OutputsLine::Refused(Refusal::Limit);
+        return Err(Refusal::Limit);
     }
-    OutputsLine::Read(StateNumber(s), outputs)
+    Ok(StateNumber(s), outputs)
 }
 
 // Whether the state that an `OU` line names, if its number can be read, is one of those that were given outputs.
 pub fn had_outputs(given: u64, l: &[u8]) -> bool
     ensures { result ≡ had_outputs given l.now }
 {
-    let Numeral::Is(s) = read_fields::numeral_of(field(l, 1)) else {
+    let Some(s) = read_fields::numeral_of(field(l, 1)) else {
         return false;
     };
     sets::member(given, s)

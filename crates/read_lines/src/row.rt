@@ -8,22 +8,22 @@ ghost use Rattle.read_lines.specs.Rows.{row_read, row_end, row_rest};
 
 use read_fields::{PatternField, Places};
 use read_pieces::{behind, cut, first_of, stands_at};
-use rules::{Head, Pattern, Refusal, Row, RowLine};
+use rules::{Head, Pattern, Refusal, Row};
 
 // A row whose characters are in order, behind `count` others.
-fn row_checked(count: usize, row: Row) -> RowLine
+fn row_checked(count: usize, row: Row) -> Result<Row, Refusal>
     ensures { result ≡ row_checked count row }
 {
     if rules::MOST_ROWS <= count {
-        return RowLine::Refused(Refusal::Limit);
+        return Err(Refusal::Limit);
     }
     if row.group == 0 {
-        return RowLine::Refused(Refusal::EmptyGroup);
+        return Err(Refusal::EmptyGroup);
     }
     if !sets::few(row.next) {
-        return RowLine::Refused(Refusal::NextState);
+        return Err(Refusal::NextState);
     }
-    RowLine::Read(row)
+    Ok(row)
 }
 
 // The states that a field of k characters `0 1` names.
@@ -42,18 +42,18 @@ fn row_read(
     group: &[u8],
     next: &[u8],
     outputs: Pattern,
-) -> RowLine
+) -> Result<Row, Refusal>
     ensures { result ≡ row_read h count line input.now group.now next.now outputs }
 {
     let PatternField::Read(asked) = read_fields::pattern_in(input, rules::MOST_INPUTS, h.inputs)
     else {
-        return RowLine::Refused(Refusal::BadLine);
+        return Err(Refusal::BadLine);
     };
     let Places::Read(states, _) = states_in(group, h.states) else {
-        return RowLine::Refused(Refusal::BadLine);
+        return Err(Refusal::BadLine);
     };
     let Places::Read(named, _) = states_in(next, h.states) else {
-        return RowLine::Refused(Refusal::BadLine);
+        return Err(Refusal::BadLine);
     };
     row_checked(
         count,
@@ -68,32 +68,32 @@ fn row_read(
 }
 
 // What stands behind the group and its space, where the row has outputs: the next state has a space behind it.
-fn row_end(h: Head, count: usize, line: usize, input: &[u8], group: &[u8], v: &[u8]) -> RowLine
+fn row_end(h: Head, count: usize, line: usize, input: &[u8], group: &[u8], v: &[u8]) -> Result<Row, Refusal>
     ensures { result ≡ row_end h count line input.now group.now v.now }
 {
     if !stands_at(v, h.states, b' ') {
-        return RowLine::Refused(Refusal::BadLine);
+        return Err(Refusal::BadLine);
     }
     let PatternField::Read(outputs) = read_fields::pattern_in(
         behind(v, h.states),
         rules::MOST_OUTPUTS,
         h.outputs,
     ) else {
-        return RowLine::Refused(Refusal::BadLine);
+        return Err(Refusal::BadLine);
     };
     row_read(h, count, line, input, group, first_of(v, h.states), outputs)
 }
 
 // What stands behind the mark and its space: each field but the last has a space behind it, at the place that the head gives it.
-fn row_rest(h: Head, count: usize, line: usize, t: &[u8]) -> RowLine
+fn row_rest(h: Head, count: usize, line: usize, t: &[u8]) -> Result<Row, Refusal>
     ensures { result ≡ row_rest h count line t.now }
 {
     if !stands_at(t, h.inputs, b' ') {
-        return RowLine::Refused(Refusal::BadLine);
+        return Err(Refusal::BadLine);
     }
     let u = behind(t, h.inputs);
     if !stands_at(u, h.states, b' ') {
-        return RowLine::Refused(Refusal::BadLine);
+        return Err(Refusal::BadLine);
     }
     let v = behind(u, h.states);
     let input = first_of(t, h.inputs);
@@ -106,12 +106,12 @@ fn row_rest(h: Head, count: usize, line: usize, t: &[u8]) -> RowLine
 }
 
 // What a `PT` line says, as line number `line` and behind `count` rows.
-pub fn row_line(h: Head, count: usize, line: usize, l: &[u8]) -> RowLine
+pub fn row_line(h: Head, count: usize, line: usize, l: &[u8]) -> Result<Row, Refusal>
     ensures { result ≡ row_line h count line l.now }
 {
     let mark = cut(l, 0, b' ');
     if l.len() <= mark {
-        return RowLine::Refused(Refusal::BadLine);
+        return Err(Refusal::BadLine);
     }
     row_rest(h, count, line, behind(l, mark))
 }

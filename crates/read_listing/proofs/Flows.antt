@@ -1,4 +1,5 @@
 -- A listing that is a flow table: what its reader answers, under its head, is what the rules read, and it has no rows to clash.
+use Rattle.std.specs.Prelude.{Result, Ok, Err}
 use mathlib.Core.Path.{◌≡◌, refl, sym, ap, ◌∙◌, subst}
 use mathlib.Core.Bool.{Bool, true, false, ◌&&◌, cond, false≢true}
 use mathlib.Core.List.{List, [], ◌∷◌}
@@ -21,7 +22,6 @@ use Rattle.rules.specs.declared.Requirement.{Requirement}
 use Rattle.rules.specs.declared.Refusal.{Refusal}
 use Rattle.rules.specs.declared.Refusal.TheVariants.{BadLine, Limit, Place}
 use Rattle.rules.specs.declared.Verdict.{Verdict}
-use Rattle.rules.specs.declared.HeadLine.{HeadLine}
 use Rattle.rules.specs.declared.Reading.{Reading}
 use Rattle.rules.proofs.SoundLines.{head-sound}
 use Rattle.rules.proofs.Sound.{flow-head, flow_after, flow-on, flow-none, flow-last, read_by, all_two, all_one}
@@ -35,11 +35,11 @@ use Rattle.read_listing.specs.Says.{flow_listing, reading_of}
 -- ---- the head
 
 module _ (l m : List ℕ) where
-  pub head-by : {a b : Bool} → same (mark_of l) (bytes "MC") ≡ a → same (mark_of m) (bytes "FT") ≡ b → flow_head l m ≡ cond (a && b) (head_line false l) (HeadLine.Refused Place)
+  pub head-by : {a b : Bool} → same (mark_of l) (bytes "MC") ≡ a → same (mark_of m) (bytes "FT") ≡ b → flow_head l m ≡ cond (a && b) (head_line false l) (Err Place)
   unfolding flow_head
   head-by e f = rw (e, f)
 
-  pub head-other : same (mark_of l) (bytes "MC") ≡ false → flow_head l m ≡ HeadLine.Refused Place
+  pub head-other : same (mark_of l) (bytes "MC") ≡ false → flow_head l m ≡ Err Place
   unfolding flow_head
   head-other e = rw e
 
@@ -126,40 +126,40 @@ all-last : (s : List ℕ) (r : ℕ) → Cut lf s 0 r → length s ≤ r → read
 all-last s r c h = ap read_all (c.last h) ∙ all_one (part s 0 r) ∙ ap (read_lines 1 blank) (sym (c.last h))
 
 -- nothing begins no flow table
-none-begins : (l : List ℕ) (h : Head) → flow_head l [] ≡ HeadLine.Read h → ⊥
+none-begins : (l : List ℕ) (h : Head) → flow_head l [] ≡ Ok h → ⊥
 unfolding flow_head mark_of split same
 none-begins l h = go (same (mark_of l) (bytes "MC"))
   where
-    told : HeadLine → Bool
-    told (HeadLine.Read h) = true
-    told (HeadLine.Refused r) = false
+    told : Result Head Refusal → Bool
+    told (Ok h) = true
+    told (Err r) = false
 
-    go : (a : Bool) → cond (a && false) (head_line false l) (HeadLine.Refused Place) ≡ HeadLine.Read h → ⊥
+    go : (a : Bool) → cond (a && false) (head_line false l) (Err Place) ≡ Ok h → ⊥
     go true e = false≢true (ap told e)
     go false e = false≢true (ap told e)
 
 -- a line that LF ends, and what stands behind it
 module _ (s : List ℕ) (r q : ℕ) (c : Cut lf s 0 r) (d : Cut lf s (r + 1) q) (h : r < length s) where
-  two-lines : (x : HeadLine) → flow_head (part s 0 r) (part s (r + 1) q) ≡ x → read_all (lines_of s) ≡ read_by x (part s 0 r) (lines_of (drop (r + 1) s))
+  two-lines : (x : Result Head Refusal) → flow_head (part s 0 r) (part s (r + 1) q) ≡ x → read_all (lines_of s) ≡ read_by x (part s 0 r) (lines_of (drop (r + 1) s))
   two-lines x e = ap read_all (c.more h) ∙ first (lines_of (drop (r + 1) s)) (split-some lf (drop (r + 1) s)) (piece-first lf s (r + 1) q d)
     where
       first : (rest : List (List ℕ)) → 1 ≤ length rest → get_or rest 0 [] ≡ part s (r + 1) q → read_all (part s 0 r ∷ rest) ≡ read_by x (part s 0 r) rest
       first [] l p = absurd (omega arith)
-      first (m ∷ ms) l p = all_two (part s 0 r) m ms ∙ ap (λ (y : HeadLine). read_by y (part s 0 r) (m ∷ ms)) (ap (flow_head (part s 0 r)) p ∙ e)
+      first (m ∷ ms) l p = all_two (part s 0 r) m ms ∙ ap (λ (y : Result Head Refusal). read_by y (part s 0 r) (m ∷ ms)) (ap (flow_head (part s 0 r)) p ∙ e)
 
   -- an ordinary listing
-  two-ordinary : {e : Refusal} → flow_head (part s 0 r) (part s (r + 1) q) ≡ HeadLine.Refused e → read_all (lines_of s) ≡ read_lines 1 blank (lines_of s)
+  two-ordinary : {e : Refusal} → flow_head (part s 0 r) (part s (r + 1) q) ≡ Err e → read_all (lines_of s) ≡ read_lines 1 blank (lines_of s)
   unfolding read_by
-  two-ordinary {e} f = two-lines (HeadLine.Refused e) f ∙ ap (read_lines 1 blank) (sym (c.more h))
+  two-ordinary {e} f = two-lines (Err e) f ∙ ap (read_lines 1 blank) (sym (c.more h))
 
   -- a flow table
-  two-flow : (g : Head) → flow_head (part s 0 r) (part s (r + 1) q) ≡ HeadLine.Read g
+  two-flow : (g : Head) → flow_head (part s 0 r) (part s (r + 1) q) ≡ Ok g
       → checked (read_all (lines_of s)) ≡ checked (reading_of g (flow_of (flow_table g (part s (r + 1) (length s)))))
   unfolding read_by
   two-flow g f =
       let sound = head-sound false (part s 0 r) g (flow-head (part s 0 r) (part s (r + 1) q) g f) in
       let rest = lines_of (drop (r + 1) s) in
-      ap checked (two-lines (HeadLine.Read g) f) ∙ sym (lines-stand 2 g rest rest)
+      ap checked (two-lines (Ok g) f) ∙ sym (lines-stand 2 g rest rest)
       ∙ ap (λ (x : Reading). checked (reading_of g (flow_of x))) (sym (ap (flow_table g) (rest_all s (r + 1)) ∙ table-read g (drop (r + 1) s) sound.some-states sound.few-states))
 
 -- the first line, and what stands behind it, if anything does
@@ -177,17 +177,17 @@ module _ (s : List ℕ) (r a q : ℕ) (c : Cut lf s 0 r) (d : Cut lf s a q) (at 
           let l : r < length s = leb-false (length s) r e in
           more (omega (arith, at)) l
 
-  pub all-ordinary : {e : Refusal} → flow_head (part s 0 r) (part s a q) ≡ HeadLine.Refused e → read_all (lines_of s) ≡ read_lines 1 blank (lines_of s)
+  pub all-ordinary : {e : Refusal} → flow_head (part s 0 r) (part s a q) ≡ Err e → read_all (lines_of s) ≡ read_lines 1 blank (lines_of s)
   all-ordinary {e} f =
       next-or-none
-      (λ n l. two-ordinary s r q c (subst (λ (x : ℕ). Cut lf s x q) n d) l (subst (λ (x : ℕ). flow_head (part s 0 r) (part s x q) ≡ HeadLine.Refused e) n f))
+      (λ n l. two-ordinary s r q c (subst (λ (x : ℕ). Cut lf s x q) n d) l (subst (λ (x : ℕ). flow_head (part s 0 r) (part s x q) ≡ Err e) n f))
       (λ l n. all-last s r c l)
 
-  pub all-flow : (g : Head) → flow_head (part s 0 r) (part s a q) ≡ HeadLine.Read g
+  pub all-flow : (g : Head) → flow_head (part s 0 r) (part s a q) ≡ Ok g
       → checked (read_all (lines_of s)) ≡ checked (reading_of g (flow_of (flow_table g (part s a (length s)))))
   all-flow g f =
       next-or-none
       (λ n l.
       subst (λ (x : ℕ). checked (read_all (lines_of s)) ≡ checked (reading_of g (flow_of (flow_table g (part s x (length s)))))) (sym n)
-      (two-flow s r q c (subst (λ (x : ℕ). Cut lf s x q) n d) l g (subst (λ (x : ℕ). flow_head (part s 0 r) (part s x q) ≡ HeadLine.Read g) n f)))
+      (two-flow s r q c (subst (λ (x : ℕ). Cut lf s x q) n d) l g (subst (λ (x : ℕ). flow_head (part s 0 r) (part s x q) ≡ Ok g) n f)))
       (λ l n. absurd (none-begins (part s 0 r) g (sym (ap (flow_head (part s 0 r)) n) ∙ f)))

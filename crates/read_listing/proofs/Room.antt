@@ -1,4 +1,10 @@
 -- What a line says has room in the listing: a row that is read is one of the first 128, a dichotomy one of the first 64, and a state one of the head's, which are at most 64.
+use Rattle.rules.specs.declared.StateOutputs.{StateOutputs}
+use Rattle.rules.specs.declared.Requirement.{Requirement}
+use Rattle.rules.specs.declared.Row.{Row}
+use Rattle.rules.specs.declared.Refusal.{Refusal}
+use Rattle.rules.specs.declared.Head.{Head}
+use Rattle.std.specs.Prelude.{Result, Ok, Err}
 use mathlib.Core.Path.{◌≡◌, refl, sym, subst}
 use mathlib.Core.Bool.{Bool, true, false, cond}
 use mathlib.Core.List.{List}
@@ -15,11 +21,6 @@ use Rattle.rules.specs.declared.Pattern.{Pattern}
 use Rattle.rules.specs.declared.Listing.{Listing}
 use Rattle.rules.specs.declared.Mark.{Mark}
 use Rattle.rules.specs.declared.Mark.TheVariants.{Mc, Mo, Pt, Di, Ou, Ft, En, Unknown}
-use Rattle.rules.specs.declared.HeadLine.{HeadLine}
-use Rattle.rules.specs.declared.RowLine.{RowLine}
-use Rattle.rules.specs.declared.DichotomyLine.{DichotomyLine}
-use Rattle.rules.specs.declared.OutputsLine.{OutputsLine}
-use Rattle.rules.specs.declared.EndLine.{EndLine}
 use Rattle.rules.proofs.SoundLines.{head-sound, row_read, dichotomy-sound, outputs-sound}
 use Rattle.read_listing.specs.declared.says.Said.{Said}
 use Rattle.read_listing.specs.Says.{head_says, row_says, dichotomy_says, outputs_says, end_says, placed_says, line_says}
@@ -33,25 +34,25 @@ Room (Said.Outputs s p) t = s.0 < t.head.states
 Room Said.End t = Unit {0}
 Room (Said.Refused r) t = Unit {0}
 
-head-has-room : (x : HeadLine) (t : Listing) (m : Bool) (l : List ℕ) → head_line m l ≡ x → Room (head_says x) t
-head-has-room (HeadLine.Read h) t m l e = (head-sound m l h e).few-states
-head-has-room (HeadLine.Refused r) t m l e = tt
+head-has-room : (x : Result Head Refusal) (t : Listing) (m : Bool) (l : List ℕ) → head_line m l ≡ x → Room (head_says x) t
+head-has-room (Ok h) t m l e = (head-sound m l h e).few-states
+head-has-room (Err r) t m l e = tt
 
-row-has-room : (x : RowLine) (t : Listing) (k : ℕ) (l : List ℕ) → row_line t.head t.rows k l ≡ x → Room (row_says x) t
-row-has-room (RowLine.Read r) t k l e = (row_read t.head t.rows k l r e).room
-row-has-room (RowLine.Refused r) t k l e = tt
+row-has-room : (x : Result Row Refusal) (t : Listing) (k : ℕ) (l : List ℕ) → row_line t.head t.rows k l ≡ x → Room (row_says x) t
+row-has-room (Ok r) t k l e = (row_read t.head t.rows k l r e).room
+row-has-room (Err r) t k l e = tt
 
-dichotomy-has-room : (x : DichotomyLine) (t : Listing) (l : List ℕ) → dichotomy_line t.head t.dichotomies l ≡ x → Room (dichotomy_says x) t
-dichotomy-has-room (DichotomyLine.Read d) t l e = (dichotomy-sound t.head t.dichotomies l d e).0
-dichotomy-has-room (DichotomyLine.Refused r) t l e = tt
+dichotomy-has-room : (x : Result Requirement Refusal) (t : Listing) (l : List ℕ) → dichotomy_line t.head t.dichotomies l ≡ x → Room (dichotomy_says x) t
+dichotomy-has-room (Ok d) t l e = (dichotomy-sound t.head t.dichotomies l d e).0
+dichotomy-has-room (Err r) t l e = tt
 
-outputs-has-room : (x : OutputsLine) (t : Listing) (l : List ℕ) → outputs_line t.head l ≡ x → Room (outputs_says x) t
-outputs-has-room (OutputsLine.Read s p) t l e = (outputs-sound t.head l s p e).0
-outputs-has-room (OutputsLine.Refused r) t l e = tt
+outputs-has-room : (x : Result StateOutputs Refusal) (t : Listing) (l : List ℕ) → outputs_line t.head l ≡ x → Room (outputs_says x) t
+outputs-has-room (Ok o) t l e = (outputs-sound t.head l o e).0
+outputs-has-room (Err r) t l e = tt
 
-end-has-room : (x : EndLine) (t : Listing) → Room (end_says x) t
-end-has-room EndLine.Read t = tt
-end-has-room (EndLine.Refused r) t = tt
+end-has-room : (x : Result Unit Refusal) (t : Listing) → Room (end_says x) t
+end-has-room (Ok tt) t = tt
+end-has-room (Err r) t = tt
 
 placed-has-room : (m : Mark) (k : ℕ) (t : Listing) (l : List ℕ) → Room (placed_says m k t.head t.rows t.dichotomies l) t
 unfolding placed_says

@@ -1,4 +1,9 @@
 -- What a line says, done to a listing, is what the rules do.
+use Rattle.rules.specs.declared.StateOutputs.{StateOutputs}
+use Rattle.rules.specs.declared.Requirement.{Requirement}
+use Rattle.rules.specs.declared.Row.{Row}
+use Rattle.rules.specs.declared.Refusal.{Refusal}
+use Rattle.std.specs.Prelude.{Result, Ok, Err}
 use mathlib.Core.Path.{◌≡◌, refl}
 use mathlib.Core.Bool.{Bool, true, false, ◌&&◌, not, cond}
 use mathlib.Core.List.{List}
@@ -12,33 +17,28 @@ use Rattle.rules.specs.declared.Listing.{Listing}
 use Rattle.rules.specs.declared.Mark.{Mark}
 use Rattle.rules.specs.declared.Mark.TheVariants.{Mc, Mo, Pt, Di, Ou, Ft, En, Unknown}
 use Rattle.rules.specs.declared.Refusal.TheVariants.{Place}
-use Rattle.rules.specs.declared.HeadLine.{HeadLine}
-use Rattle.rules.specs.declared.RowLine.{RowLine}
-use Rattle.rules.specs.declared.DichotomyLine.{DichotomyLine}
-use Rattle.rules.specs.declared.OutputsLine.{OutputsLine}
-use Rattle.rules.specs.declared.EndLine.{EndLine}
 use Rattle.read_listing.specs.declared.says.Said.{Said}
 use Rattle.read_listing.specs.Says.{step_of, head_says, row_says, dichotomy_says, outputs_says, end_says, placed_says, line_says}
 
-head_step : (x : HeadLine) (t : Listing) → step_of (head_says x) t ≡ on_head x t
-head_step (HeadLine.Read h) t = refl
-head_step (HeadLine.Refused r) t = refl
+head_step : (x : Result Head Refusal) (t : Listing) → step_of (head_says x) t ≡ on_head x t
+head_step (Ok h) t = refl
+head_step (Err r) t = refl
 
-row_step : (x : RowLine) (t : Listing) → step_of (row_says x) t ≡ on_row x t
-row_step (RowLine.Read r) t = refl
-row_step (RowLine.Refused r) t = refl
+row_step : (x : Result Row Refusal) (t : Listing) → step_of (row_says x) t ≡ on_row x t
+row_step (Ok r) t = refl
+row_step (Err r) t = refl
 
-dichotomy-step : (x : DichotomyLine) (t : Listing) → step_of (dichotomy_says x) t ≡ on_dichotomy x t
-dichotomy-step (DichotomyLine.Read d) t = refl
-dichotomy-step (DichotomyLine.Refused r) t = refl
+dichotomy-step : (x : Result Requirement Refusal) (t : Listing) → step_of (dichotomy_says x) t ≡ on_dichotomy x t
+dichotomy-step (Ok d) t = refl
+dichotomy-step (Err r) t = refl
 
-outputs-step : (x : OutputsLine) (t : Listing) → step_of (outputs_says x) t ≡ on_outputs x t
-outputs-step (OutputsLine.Read s p) t = refl
-outputs-step (OutputsLine.Refused r) t = refl
+outputs-step : (x : Result StateOutputs Refusal) (t : Listing) → step_of (outputs_says x) t ≡ on_outputs x t
+outputs-step (Ok o) t = refl
+outputs-step (Err r) t = refl
 
-end_step : (x : EndLine) (t : Listing) → step_of (end_says x) t ≡ on_end x
-end_step EndLine.Read t = refl
-end_step (EndLine.Refused r) t = refl
+end_step : (x : Result Unit Refusal) (t : Listing) → step_of (end_says x) t ≡ on_end x
+end_step (Ok tt) t = refl
+end_step (Err r) t = refl
 
 placed-step : (m : Mark) (k : ℕ) (t : Listing) (l : List ℕ) → step_of (placed_says m k t.head t.rows t.dichotomies l) t ≡ line_does m k t l
 unfolding placed_says line_does

@@ -1,5 +1,8 @@
 -- What a line does to a listing, said without the listing: the reader keeps its one listing where it lies, and adds to it there.
-use Rattle.std.specs.Prelude.{Bool, true, false, cond, List, ℕ, ◌+◌, leb, length}
+use Rattle.rules.specs.declared.StateOutputs.{StateOutputs}
+use Rattle.rules.specs.declared.Requirement.{Requirement}
+use Rattle.rules.specs.declared.Row.{Row}
+use Rattle.std.specs.Prelude.{Bool, true, false, cond, List, ℕ, ◌+◌, leb, length, Result, Ok, Err}
 use Rattle.rules.specs.Limits.{most_bytes}
 use Rattle.rules.specs.Text.{split, lines_of, mark_of, mark_is}
 use Rattle.rules.specs.Lines.{head_line, row_line, dichotomy_line, outputs_line, end_line}
@@ -12,11 +15,6 @@ use Rattle.rules.specs.declared.Mark.TheVariants.{Mc, Mo, Pt, Di, Ou, Ft, En, Un
 use Rattle.rules.specs.declared.Refusal.{Refusal}
 use Rattle.rules.specs.declared.Refusal.TheVariants.{BadLine, Limit, Place, NoOutputs}
 use Rattle.rules.specs.declared.Verdict.{Verdict}
-use Rattle.rules.specs.declared.HeadLine.{HeadLine}
-use Rattle.rules.specs.declared.RowLine.{RowLine}
-use Rattle.rules.specs.declared.DichotomyLine.{DichotomyLine}
-use Rattle.rules.specs.declared.OutputsLine.{OutputsLine}
-use Rattle.rules.specs.declared.EndLine.{EndLine}
 use Rattle.rules.specs.declared.Reading.{Reading}
 use Rattle.read_flow.specs.declared.Flow.{Flow}
 use Rattle.read_listing.specs.declared.says.Said.{Said}
@@ -31,45 +29,45 @@ step_of Said.End t = ends
 step_of (Said.Refused r) t = stops r
 
 -- why a line is refused; 1 for one that was read
-abbrev pub head_reason : HeadLine → Refusal
-head_reason (HeadLine.Read h) = BadLine
-head_reason (HeadLine.Refused r) = r
+abbrev pub head_reason : Result Head Refusal → Refusal
+head_reason (Ok h) = BadLine
+head_reason (Err r) = r
 
-abbrev pub row_reason : RowLine → Refusal
-row_reason (RowLine.Read r) = BadLine
-row_reason (RowLine.Refused r) = r
+abbrev pub row_reason : Result Row Refusal → Refusal
+row_reason (Ok r) = BadLine
+row_reason (Err r) = r
 
-abbrev pub dichotomy_reason : DichotomyLine → Refusal
-dichotomy_reason (DichotomyLine.Read d) = BadLine
-dichotomy_reason (DichotomyLine.Refused r) = r
+abbrev pub dichotomy_reason : Result Requirement Refusal → Refusal
+dichotomy_reason (Ok d) = BadLine
+dichotomy_reason (Err r) = r
 
-abbrev pub outputs_reason : OutputsLine → Refusal
-outputs_reason (OutputsLine.Read s p) = BadLine
-outputs_reason (OutputsLine.Refused r) = r
+abbrev pub outputs_reason : Result StateOutputs Refusal → Refusal
+outputs_reason (Ok o) = BadLine
+outputs_reason (Err r) = r
 
-abbrev pub end_reason : EndLine → Refusal
-end_reason EndLine.Read = BadLine
-end_reason (EndLine.Refused r) = r
+abbrev pub end_reason : Result Unit Refusal → Refusal
+end_reason (Ok tt) = BadLine
+end_reason (Err r) = r
 
-abbrev pub head_says : HeadLine → Said
-head_says (HeadLine.Read h) = Said.Head h
-head_says (HeadLine.Refused r) = Said.Refused r
+abbrev pub head_says : Result Head Refusal → Said
+head_says (Ok h) = Said.Head h
+head_says (Err r) = Said.Refused r
 
-abbrev pub row_says : RowLine → Said
-row_says (RowLine.Read r) = Said.Row r
-row_says (RowLine.Refused r) = Said.Refused r
+abbrev pub row_says : Result Row Refusal → Said
+row_says (Ok r) = Said.Row r
+row_says (Err r) = Said.Refused r
 
-abbrev pub dichotomy_says : DichotomyLine → Said
-dichotomy_says (DichotomyLine.Read d) = Said.Dichotomy d
-dichotomy_says (DichotomyLine.Refused r) = Said.Refused r
+abbrev pub dichotomy_says : Result Requirement Refusal → Said
+dichotomy_says (Ok d) = Said.Dichotomy d
+dichotomy_says (Err r) = Said.Refused r
 
-abbrev pub outputs_says : OutputsLine → Said
-outputs_says (OutputsLine.Read s p) = Said.Outputs s p
-outputs_says (OutputsLine.Refused r) = Said.Refused r
+abbrev pub outputs_says : Result StateOutputs Refusal → Said
+outputs_says (Ok o) = Said.Outputs o
+outputs_says (Err r) = Said.Refused r
 
-abbrev pub end_says : EndLine → Said
-end_says EndLine.Read = Said.End
-end_says (EndLine.Refused r) = Said.Refused r
+abbrev pub end_says : Result Unit Refusal → Said
+end_says (Ok tt) = Said.End
+end_says (Err r) = Said.Refused r
 
 -- line k in its place, under the head h and behind so many rows and dichotomies
 unfoldable pub placed_says : Mark → ℕ → Head → ℕ → ℕ → List ℕ → Said

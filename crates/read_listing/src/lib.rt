@@ -13,7 +13,7 @@ ghost use Rattle.read_listing.specs.Says.{outputs_verdict, end_verdict, reading_
 
 use read_answers::{blank_listing, settle_lent};
 use read_flow::Flow;
-use rules::{Head, HeadLine, Listing, Reading, Refusal, Verdict};
+use rules::{Head, Listing, Reading, Refusal, Verdict};
 use says::Said;
 
 // The head that says nothing.
@@ -121,14 +121,14 @@ fn read_lines(s: &[u8], t: &mut Listing) -> Verdict
 }
 
 // The head of a flow table, if lines l and m begin one.
-fn flow_head(l: &[u8], m: &[u8]) -> HeadLine
+fn flow_head(l: &[u8], m: &[u8]) -> Result<Head, Refusal>
     ensures { result ≡ flow_head l.now m.now }
 {
     if !read_marks::leads(l, b"MC") {
-        return HeadLine::Refused(Refusal::Place);
+        return Err(Refusal::Place);
     }
     if !read_marks::leads(m, b"FT") {
-        return HeadLine::Refused(Refusal::Place);
+        return Err(Refusal::Place);
     }
     read_head::head_line(false, l)
 }
@@ -155,8 +155,8 @@ fn read_all(s: &[u8], t: &mut Listing) -> Verdict
     let next = read_pieces::cut(s, at, b'\n');
     let head = flow_head(&s[0..end], &s[at..next]);
     match head {
-        HeadLine::Read(h) => flow_reading(h, read_flow::read_flow(h, &s[at..]), t),
-        HeadLine::Refused(_) => read_lines(s, t),
+        Ok(h) => flow_reading(h, read_flow::read_flow(h, &s[at..]), t),
+        Err(_) => read_lines(s, t),
     }
 }
 

@@ -6,10 +6,7 @@ ghost use Rattle.rules.specs.declared.Mark.TheVariants.{Ou};
 ghost use Rattle.read_listing.specs.Says.{head_reason, row_reason, dichotomy_reason, outputs_reason, end_reason};
 ghost use Rattle.read_listing.specs.Says.{head_says, row_says, dichotomy_says, outputs_says, end_says, placed_says, line_says, states_said};
 
-use rules::{
-    DichotomyLine, EndLine, Head, HeadLine, Mark, OutputsLine, Pattern, Refusal, Requirement, Row,
-    RowLine, StateNumber,
-};
+use rules::{Head, Mark, Pattern, Refusal, Requirement, Row, StateNumber, StateOutputs};
 
 // What a line does: it gives the head, a row, a dichotomy or the outputs of a state, ends the listing, or is refused.
 #[derive(Clone, Copy)]
@@ -23,12 +20,12 @@ pub enum Said {
 }
 
 // Why a line is refused; 1 for one that was read.
-fn head_reason(got: HeadLine) -> Refusal
+fn head_reason(got: Result<Head, Refusal>) -> Refusal
     ensures { result ≡ head_reason got }
 {
     match got {
-        HeadLine::Refused(r) => r,
-        HeadLine::Read(_) => Refusal::BadLine,
+        Err(r) => r,
+        Ok(_) => Refusal::BadLine,
     }
 }
 
@@ -36,18 +33,18 @@ fn head_said(moore: bool, l: &[u8]) -> Said
     ensures { result ≡ head_says (head_line moore l.now) }
 {
     let got = read_head::head_line(moore, l);
-    let HeadLine::Read(h) = got else {
+    let Ok(h) = got else {
         return Said::Refused(head_reason(got));
     };
     Said::Head(h)
 }
 
-fn row_reason(got: RowLine) -> Refusal
+fn row_reason(got: Result<Row, Refusal>) -> Refusal
     ensures { result ≡ row_reason got }
 {
     match got {
-        RowLine::Refused(r) => r,
-        RowLine::Read(_) => Refusal::BadLine,
+        Err(r) => r,
+        Ok(_) => Refusal::BadLine,
     }
 }
 
@@ -55,18 +52,18 @@ fn row_said(h: Head, count: usize, k: usize, l: &[u8]) -> Said
     ensures { result ≡ row_says (row_line h count k l.now) }
 {
     let got = read_lines::row::row_line(h, count, k, l);
-    let RowLine::Read(row) = got else {
+    let Ok(row) = got else {
         return Said::Refused(row_reason(got));
     };
     Said::Row(row)
 }
 
-fn dichotomy_reason(got: DichotomyLine) -> Refusal
+fn dichotomy_reason(got: Result<Requirement, Refusal>) -> Refusal
     ensures { result ≡ dichotomy_reason got }
 {
     match got {
-        DichotomyLine::Refused(r) => r,
-        DichotomyLine::Read(_) => Refusal::BadLine,
+        Err(r) => r,
+        Ok(_) => Refusal::BadLine,
     }
 }
 
@@ -74,18 +71,18 @@ fn dichotomy_said(h: Head, count: usize, l: &[u8]) -> Said
     ensures { result ≡ dichotomy_says (dichotomy_line h count l.now) }
 {
     let got = read_lines::dichotomy::dichotomy_line(h, count, l);
-    let DichotomyLine::Read(d) = got else {
+    let Ok(d) = got else {
         return Said::Refused(dichotomy_reason(got));
     };
     Said::Dichotomy(d)
 }
 
-fn outputs_reason(got: OutputsLine) -> Refusal
+fn outputs_reason(got: Result<StateOutputs, Refusal>) -> Refusal
     ensures { result ≡ outputs_reason got }
 {
     match got {
-        OutputsLine::Refused(r) => r,
-        OutputsLine::Read(_, _) => Refusal::BadLine,
+        Err(r) => r,
+        Ok(_, _) => Refusal::BadLine,
     }
 }
 
@@ -93,18 +90,18 @@ fn outputs_said(h: Head, l: &[u8]) -> Said
     ensures { result ≡ outputs_says (outputs_line h l.now) }
 {
     let got = read_lines::outputs::outputs_line(h, l);
-    let OutputsLine::Read(s, p) = got else {
+    let Ok(s, p) = got else {
         return Said::Refused(outputs_reason(got));
     };
     Said::Outputs(s, p)
 }
 
-fn end_reason(got: EndLine) -> Refusal
+fn end_reason(got: Result<(), Refusal>) -> Refusal
     ensures { result ≡ end_reason got }
 {
     match got {
-        EndLine::Refused(r) => r,
-        EndLine::Read => Refusal::BadLine,
+        Err(r) => r,
+        Ok(()) => Refusal::BadLine,
     }
 }
 
@@ -112,7 +109,7 @@ fn end_said(l: &[u8]) -> Said
     ensures { result ≡ end_says (end_line l.now) }
 {
     let got = read_marks::end_line(l);
-    let EndLine::Read = got else {
+    let Ok(()) = got else {
         return Said::Refused(end_reason(got));
     };
     Said::End

@@ -7,7 +7,7 @@ ghost use Rattle.rules.specs.Lines.{end_line};
 ghost use Rattle.read_marks.specs.Marks.{two_of};
 
 use read_pieces::{field, field_count};
-use rules::{EndLine, Mark, Refusal};
+use rules::{Mark, Refusal};
 
 // Whether a field is the mark m.
 pub fn is_mark(f: &[u8], m: &[u8; 2]) -> bool
@@ -65,11 +65,11 @@ pub fn leads(l: &[u8], m: &[u8; 2]) -> bool
 }
 
 // What an `EN` line says: it is the mark alone.
-pub fn end_line(l: &[u8]) -> EndLine
+pub fn end_line(l: &[u8]) -> Result<(), Refusal>
     ensures { result ≡ end_line l.now }
 {
     if field_count(l) != 1 {
-        return EndLine::Refused(Refusal::BadLine);
+        return Err(Refusal::BadLine);
     }
-    EndLine::Read
+    Ok(())
 }

@@ -1,16 +1,14 @@
 -- All that a listing says, row by row: its rows, and those that the states of a Moore machine add. Each is fit for a line, no two clash, and each has a met group.
 use mathlib.Core.Path.{◌≡◌, refl, sym, ap, subst, ◌∙◌}
-use mathlib.Core.Bool.{Bool, true, false, ◌&&◌, not, cond, and-false}
+use mathlib.Core.Bool.{Bool, true, false, ◌&&◌, not, cond}
 use mathlib.Core.List.{List, [], ◌∷◌, ◌++◌}
-use Prim.Native.Nat.{ℕ, zero, suc, ◌+◌, ◌-◌, ◌^◌, ◌≤◌, ◌<◌}
+use Prim.Native.Nat.{ℕ, zero, suc, ◌+◌, ◌-◌, ◌≤◌, ◌<◌}
 use native.Mathlib.Decide.{dec_lt}
 use native.Mathlib.Omega.{arith}
-use lib.Bits.{bit_and}
 use lib.Dec.{eqb}
 use lib.Pow.{pow_pos, pow-lt}
 use lib.ListN.{length, take, get_or, length-take, length-append, get_or-append}
 use lib.Seq.{get_or-append-add}
-use Rattle.sets.specs.Sets.{only, size}
 use Rattle.sets.proofs.Size.{size-zero, size-only}
 use Rattle.rules.specs.Limits.{most_states, most_lines}
 use Rattle.rules.specs.Listing.{no_pattern, no_row, rows_of, state_row, state_rows, all_rows, meets, clash, conflict}

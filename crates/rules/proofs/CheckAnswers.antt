@@ -1,5 +1,6 @@
 -- 02, request 10, by the answer's bytes: `OK` exactly when the codes are distinct, every group requirement is met and the cover agrees at each state and input; `AT`
 -- exactly when those are met and the cover fails there and nowhere before; and `UN` exactly when that requirement is unmet and all before it are met.
+use Rattle.std.specs.Prelude.{Option, Some, None}
 use mathlib.Core.Path.{◌≡◌, refl, sym, ap, ap₂, subst, ◌∙◌}
 use mathlib.Core.Logic.{◌↔◌}
 use mathlib.Core.Bool.{Bool, true, false}
@@ -14,11 +15,10 @@ use Rattle.rules.specs.Code.{unmet_from}
 use Rattle.rules.specs.Report.{unmet_line}
 use Rattle.rules.specs.Meaning.{agrees_at}
 use Rattle.rules.specs.Least.{turned}
-use Rattle.rules.specs.Check.{fault_of, fault_line, check_line, check_text}
+use Rattle.rules.specs.Check.{fault_at, fault_of, fault_line, check_line, check_text}
 use Rattle.rules.specs.declared.Listing.{Listing}
 use Rattle.rules.specs.declared.Requirement.{Requirement}
 use Rattle.rules.specs.declared.Fault.{Fault}
-use Rattle.rules.specs.declared.Fault.TheVariants.{At, Nowhere}
 use Rattle.rules.proofs.Unmet.{listed-met, listed-unmet}
 use Rattle.rules.proofs.Faces.{Distinct}
 use Rattle.rules.proofs.Reported.{un_text, two_numbers, numbers-same, un-same}
@@ -35,18 +35,18 @@ at_text s v = two_numbers 65 84 s v
 unlike : (a b : List ℕ) → (get_or a 0 0 ≡ get_or b 0 0 → ⊥) → a ≡ b → ⊥
 unlike a b o e = o (ap (λ (l : List ℕ). get_or l 0 0) e)
 
-at-line : (us : List ℕ) (f : Fault) (s v : ℕ) → check_line us f ≡ at_text s v → (us ≡ []) × (f ≡ At (record { 0 = s }) v)
+at-line : (us : List ℕ) (f : Option Fault) (s v : ℕ) → check_line us f ≡ at_text s v → (us ≡ []) × (f ≡ fault_at s v)
 unfolding check_line fault_line unmet_line
-at-line [] (At q x) s v e =
-    let same = numbers-same 65 84 (omega arith) (omega arith) q.0 x s v e in
-    (refl, ap₂ (λ (a b : ℕ). At (record { 0 = a }) b) same.0 same.1)
-at-line [] Nowhere s v e = absurd (unlike (fault_line Nowhere) (at_text s v) (λ (z : ◌≡◌ {A = ℕ} 79 65). omega arith) e)
+at-line [] (Some q) s v e =
+    let same = numbers-same 65 84 (omega arith) (omega arith) q.state.0 q.input s v e in
+    (refl, ap₂ (λ (a b : ℕ). fault_at a b) same.0 same.1)
+at-line [] None s v e = absurd (unlike (fault_line None) (at_text s v) (λ (z : ◌≡◌ {A = ℕ} 79 65). omega arith) e)
 at-line (u ∷ us) f s v e = absurd (unlike (un_text u) (at_text s v) (λ (z : ◌≡◌ {A = ℕ} 85 65). omega arith) e)
 
-un-line : (us : List ℕ) (f : Fault) (r : ℕ) → check_line us f ≡ un_text r → (rs : List ℕ) × (us ≡ r ∷ rs)
+un-line : (us : List ℕ) (f : Option Fault) (r : ℕ) → check_line us f ≡ un_text r → (rs : List ℕ) × (us ≡ r ∷ rs)
 unfolding check_line fault_line unmet_line
-un-line [] (At q x) r e = absurd (unlike (at_text q.0 x) (un_text r) (λ (z : ◌≡◌ {A = ℕ} 65 85). omega arith) e)
-un-line [] Nowhere r e = absurd (unlike (fault_line Nowhere) (un_text r) (λ (z : ◌≡◌ {A = ℕ} 79 85). omega arith) e)
+un-line [] (Some q) r e = absurd (unlike (at_text q.state.0 q.input) (un_text r) (λ (z : ◌≡◌ {A = ℕ} 65 85). omega arith) e)
+un-line [] None r e = absurd (unlike (fault_line None) (un_text r) (λ (z : ◌≡◌ {A = ℕ} 79 85). omega arith) e)
 un-line (u ∷ us) f r e = (us, ap (λ (x : ℕ). x ∷ us) (un-same u r e))
 
 -- ---- the lowest that is unmet

@@ -1,5 +1,6 @@
 -- 02, request 10: checking says `OK` exactly when every pair and group requirement is met and the cover agrees at each state and input; `AT` where they are met and
 -- it does not agree there and nowhere before; and `UN` with the lowest that is unmet. A cover of ours is `OK` by its own code.
+use Rattle.std.specs.Prelude.{Option, Some, None}
 use mathlib.Core.Path.{◌≡◌, refl, sym, ap, ap₂, subst, ◌∙◌}
 use mathlib.Core.Bool.{Bool, true, false, not}
 use mathlib.Core.List.{List, [], ◌∷◌, ◌++◌}
@@ -16,28 +17,27 @@ use Rattle.rules.specs.Code.{Code, coded, unmet_from}
 use Rattle.rules.specs.Report.{unmet_line}
 use Rattle.rules.specs.Meaning.{agrees_at}
 use Rattle.rules.specs.Least.{turned}
-use Rattle.rules.specs.Check.{fails, Lowest, lowest, none, lowest_from, fault_from, fault_of, fault_line, check_line, check_text}
+use Rattle.rules.specs.Check.{fails, lowest_from, fault_at, fault_from, fault_of, fault_line, check_line, check_text}
 use Rattle.rules.specs.Answers.{says, cover_of}
 use Rattle.rules.specs.declared.Listing.{Listing}
 use Rattle.rules.specs.declared.Refusal.TheVariants.{Unmet}
 use Rattle.rules.specs.declared.Verdict.{Verdict}
 use Rattle.rules.specs.declared.Fault.{Fault}
-use Rattle.rules.specs.declared.Fault.TheVariants.{At, Nowhere}
 use Rattle.rules.proofs.Ways.{chose-second}
 use Rattle.rules.proofs.Sound.{Sound}
 use Rattle.rules.proofs.Written.{of-coding, says-not}
 
 -- ---- the lowest of some numbers
 
-abbrev is_none : Lowest → ℕ
-is_none (lowest v) = 0
-is_none none = 1
+abbrev is_none : Option ℕ → ℕ
+is_none (Some v) = 0
+is_none None = 1
 
-abbrev number_in : Lowest → ℕ
-number_in (lowest v) = v
-number_in none = 0
+abbrev number_in : Option ℕ → ℕ
+number_in (Some v) = v
+number_in None = 0
 
-not_none : (v : ℕ) → lowest v ≡ none → ⊥
+not_none : (v : ℕ) → Some v ≡ None → ⊥
 not_none v e = let z : ◌≡◌ {A = ℕ} 0 1 = ap is_none e in omega arith
 
 -- p holds of none before v
@@ -55,81 +55,81 @@ module _ (p : ℕ → Bool) where
       go x l m (yes q) = ap p (sym q) ∙ e
       go x l m (no o) = h x (omega (arith, o)) m
 
-  none_before : (a k : ℕ) → lowest_from p a k ≡ none → Before p a (a + k)
+  none_before : (a k : ℕ) → lowest_from p a k ≡ None → Before p a (a + k)
   unfolding lowest_from
   none_before a zero e = λ x l m. absurd (omega arith)
   none_before a (suc k) e = go (p a) refl e (none_before (suc a) k)
     where
-      go : (b : Bool) → p a ≡ b → elim b [ true ↦ lowest a | false ↦ lowest_from p (suc a) k ] ≡ none → (lowest_from p (suc a) k ≡ none → Before p (suc a) (suc a + k)) → Before p a (a + suc k)
+      go : (b : Bool) → p a ≡ b → ◌≡◌ {A = Option ℕ} (elim b [ true ↦ Some a | false ↦ lowest_from p (suc a) k ]) (None) → (lowest_from p (suc a) k ≡ None → Before p (suc a) (suc a + k)) → Before p a (a + suc k)
       go true q e later = absurd (not_none a e)
       go false q e later = before-next a (a + suc k) q (λ y i j. later e y i (omega arith))
 
-  before-none : (a k : ℕ) → Before p a (a + k) → lowest_from p a k ≡ none
+  before-none : (a k : ℕ) → Before p a (a + k) → lowest_from p a k ≡ None
   unfolding lowest_from
   before-none a zero h = refl
   before-none a (suc k) h =
-      ap {B = Lowest} (λ (b : Bool). elim b [ true ↦ lowest a | false ↦ lowest_from p (suc a) k ]) (h a (omega arith) (omega arith))
+      ap {B = Option ℕ} (λ (b : Bool). elim b [ true ↦ Some a | false ↦ lowest_from p (suc a) k ]) (h a (omega arith) (omega arith))
       ∙ before-none (suc a) k (λ x l m. h x (omega arith) (omega arith))
 
-  lowest-first : (a k v : ℕ) → lowest_from p a k ≡ lowest v → First p a k v
+  lowest-first : (a k v : ℕ) → lowest_from p a k ≡ Some v → First p a k v
   unfolding lowest_from
   lowest-first a zero v e = absurd (not_none v (sym e))
   lowest-first a (suc k) v e = go (p a) refl e (lowest-first (suc a) k v)
     where
-      go : (b : Bool) → p a ≡ b → elim b [ true ↦ lowest a | false ↦ lowest_from p (suc a) k ] ≡ lowest v → (lowest_from p (suc a) k ≡ lowest v → First p (suc a) k v) → First p a (suc k) v
+      go : (b : Bool) → p a ≡ b → ◌≡◌ {A = Option ℕ} (elim b [ true ↦ Some a | false ↦ lowest_from p (suc a) k ]) (Some v) → (lowest_from p (suc a) k ≡ Some v → First p (suc a) k v) → First p a (suc k) v
       go true q e later = let s : a ≡ v = ap number_in e in (omega arith, omega arith, ap p (sym s) ∙ q, λ x l m. absurd (omega arith))
       go false q e later = let f = later e in (omega (arith, f.0), omega (arith, f.1), f.2, before-next a v q f.3)
 
-  first-lowest : (a k v : ℕ) → First p a k v → lowest_from p a k ≡ lowest v
+  first-lowest : (a k v : ℕ) → First p a k v → lowest_from p a k ≡ Some v
   unfolding lowest_from
   first-lowest a zero v f = absurd (omega (arith, f.0, f.1))
   first-lowest a (suc k) v f = go (ℕ_discrete a v) (first-lowest (suc a) k v)
     where
-      go : Dec (a ≡ v) → (First p (suc a) k v → lowest_from p (suc a) k ≡ lowest v) → elim (p a) [ true ↦ lowest a | false ↦ lowest_from p (suc a) k ] ≡ lowest v
-      go (yes q) later = ap {B = Lowest} (λ (b : Bool). elim b [ true ↦ lowest a | false ↦ lowest_from p (suc a) k ]) (ap p q ∙ f.2) ∙ ap lowest q
+      go : Dec (a ≡ v) → (First p (suc a) k v → lowest_from p (suc a) k ≡ Some v) → elim (p a) [ true ↦ Some a | false ↦ lowest_from p (suc a) k ] ≡ Some v
+      go (yes q) later = ap {B = Option ℕ} (λ (b : Bool). elim b [ true ↦ Some a | false ↦ lowest_from p (suc a) k ]) (ap p q ∙ f.2) ∙ ap Some q
       go (no o) later =
-          ap {B = Lowest} (λ (b : Bool). elim b [ true ↦ lowest a | false ↦ lowest_from p (suc a) k ]) (f.3 a (omega arith) (omega (arith, o, f.0)))
+          ap {B = Option ℕ} (λ (b : Bool). elim b [ true ↦ Some a | false ↦ lowest_from p (suc a) k ]) (f.3 a (omega arith) (omega (arith, o, f.0)))
           ∙ later (omega (arith, o, f.0), omega (arith, f.1), f.2, λ x l m. f.3 x (omega arith) m)
 
 -- ---- the lowest state and its lowest input
 
-abbrev is-nowhere : Fault → ℕ
-is-nowhere (At s v) = 0
-is-nowhere Nowhere = 1
+abbrev is-nowhere : Option Fault → ℕ
+is-nowhere (Some f) = 0
+is-nowhere None = 1
 
-abbrev state-in : Fault → ℕ
-state-in (At s v) = s.0
-state-in Nowhere = 0
+abbrev state-in : Option Fault → ℕ
+state-in (Some f) = f.state.0
+state-in None = 0
 
-abbrev input-in : Fault → ℕ
-input-in (At s v) = v
-input-in Nowhere = 0
+abbrev input-in : Option Fault → ℕ
+input-in (Some f) = f.input
+input-in None = 0
 
 -- no state from a on and before s fails
 abbrev pub States : (ℕ → ℕ → Bool) → ℕ → ℕ → ℕ → Type 0
 States p i a s = (y : ℕ) → a ≤ y → y < s → (v : ℕ) → v < 2 ^ i → p y v ≡ false
 
 module _ (p : ℕ → ℕ → Bool) (i : ℕ) where
-  abbrev fault-by : ℕ → ℕ → Lowest → Fault
-  fault-by s k l = elim l [ lowest v ↦ At (record { 0 = s }) v | none ↦ fault_from p i (suc s) k ]
+  abbrev fault-by : ℕ → ℕ → Option ℕ → Option Fault
+  fault-by s k l = elim l [ Some v ↦ fault_at s v | None ↦ fault_from p i (suc s) k ]
 
-  states-next : (a s : ℕ) → lowest_from (p a) 0 (2 ^ i) ≡ none → States p i (suc a) s → States p i a s
+  states-next : (a s : ℕ) → lowest_from (p a) 0 (2 ^ i) ≡ None → States p i (suc a) s → States p i a s
   states-next a s e h = λ y l m v b. go y l m v b (ℕ_discrete a y)
     where
       go : (y : ℕ) → a ≤ y → y < s → (v : ℕ) → v < 2 ^ i → Dec (a ≡ y) → p y v ≡ false
       go y l m v b (yes q) = ap (λ (z : ℕ). p z v) (sym q) ∙ none_before (p a) 0 (2 ^ i) e v (omega arith) (omega arith)
       go y l m v b (no o) = h y (omega (arith, o)) m v b
 
-  nowhere-states : (a k : ℕ) → fault_from p i a k ≡ Nowhere → States p i a (a + k)
+  nowhere-states : (a k : ℕ) → fault_from p i a k ≡ None → States p i a (a + k)
   unfolding fault_from
   nowhere-states a zero e = λ y l m v b. absurd (omega arith)
   nowhere-states a (suc k) e = go (lowest_from (p a) 0 (2 ^ i)) refl e (nowhere-states (suc a) k)
     where
-      go : (l : Lowest) → lowest_from (p a) 0 (2 ^ i) ≡ l → fault-by a k l ≡ Nowhere → (fault_from p i (suc a) k ≡ Nowhere → States p i (suc a) (suc a + k)) → States p i a (a + suc k)
-      go (lowest x) q e later = absurd (let z : ◌≡◌ {A = ℕ} 0 1 = ap is-nowhere e in omega arith)
-      go none q e later = states-next a (a + suc k) q (λ z g h. later e z g (omega arith))
+      go : (l : Option ℕ) → lowest_from (p a) 0 (2 ^ i) ≡ l → fault-by a k l ≡ None → (fault_from p i (suc a) k ≡ None → States p i (suc a) (suc a + k)) → States p i a (a + suc k)
+      go (Some x) q e later = absurd (let z : ◌≡◌ {A = ℕ} 0 1 = ap is-nowhere e in omega arith)
+      go None q e later = states-next a (a + suc k) q (λ z g h. later e z g (omega arith))
 
-  pub states-nowhere : (a k : ℕ) → States p i a (a + k) → fault_from p i a k ≡ Nowhere
+  pub states-nowhere : (a k : ℕ) → States p i a (a + k) → fault_from p i a k ≡ None
   unfolding fault_from
   states-nowhere a zero h = refl
   states-nowhere a (suc k) h =
@@ -139,25 +139,25 @@ module _ (p : ℕ → ℕ → Bool) (i : ℕ) where
   abbrev Found : ℕ → ℕ → ℕ → ℕ → Type 0
   Found a k s v = (a ≤ s) × (s < a + k) × First (p s) 0 (2 ^ i) v × States p i a s
 
-  at-found : (a k s v : ℕ) → fault_from p i a k ≡ At (record { 0 = s }) v → Found a k s v
+  at-found : (a k s v : ℕ) → fault_from p i a k ≡ fault_at s v → Found a k s v
   unfolding fault_from
   at-found a zero s v e = absurd (let z : ◌≡◌ {A = ℕ} 1 0 = ap is-nowhere e in omega arith)
   at-found a (suc k) s v e = go (lowest_from (p a) 0 (2 ^ i)) refl e (at-found (suc a) k s v)
     where
-      go : (l : Lowest) → lowest_from (p a) 0 (2 ^ i) ≡ l → fault-by a k l ≡ At (record { 0 = s }) v → (fault_from p i (suc a) k ≡ At (record { 0 = s }) v → Found (suc a) k s v) → Found a (suc k) s v
-      go (lowest x) q e later =
+      go : (l : Option ℕ) → lowest_from (p a) 0 (2 ^ i) ≡ l → fault-by a k l ≡ fault_at s v → (fault_from p i (suc a) k ≡ fault_at s v → Found (suc a) k s v) → Found a (suc k) s v
+      go (Some x) q e later =
           let here : a ≡ s = ap state-in e in
           let there : x ≡ v = ap input-in e in
-          (omega arith, omega arith, lowest-first (p s) 0 (2 ^ i) v (ap (λ (y : ℕ). lowest_from (p y) 0 (2 ^ i)) (sym here) ∙ q ∙ ap lowest there), λ y l m. absurd (omega arith))
-      go none q e later = let f = later e in (omega (arith, f.0), omega (arith, f.1), f.2, states-next a s q f.3)
+          (omega arith, omega arith, lowest-first (p s) 0 (2 ^ i) v (ap (λ (y : ℕ). lowest_from (p y) 0 (2 ^ i)) (sym here) ∙ q ∙ ap Some there), λ y l m. absurd (omega arith))
+      go None q e later = let f = later e in (omega (arith, f.0), omega (arith, f.1), f.2, states-next a s q f.3)
 
-  found_at : (a k s v : ℕ) → Found a k s v → fault_from p i a k ≡ At (record { 0 = s }) v
+  found_at : (a k s v : ℕ) → Found a k s v → fault_from p i a k ≡ fault_at s v
   unfolding fault_from
   found_at a zero s v f = absurd (omega (arith, f.0, f.1))
   found_at a (suc k) s v f = go (ℕ_discrete a s) (found_at (suc a) k s v)
     where
-      go : Dec (a ≡ s) → (Found (suc a) k s v → fault_from p i (suc a) k ≡ At (record { 0 = s }) v) → fault-by a k (lowest_from (p a) 0 (2 ^ i)) ≡ At (record { 0 = s }) v
-      go (yes q) later = ap (fault-by a k) (ap (λ (y : ℕ). lowest_from (p y) 0 (2 ^ i)) q ∙ first-lowest (p s) 0 (2 ^ i) v f.2) ∙ ap (λ (y : ℕ). At (record { 0 = y }) v) q
+      go : Dec (a ≡ s) → (Found (suc a) k s v → fault_from p i (suc a) k ≡ fault_at s v) → fault-by a k (lowest_from (p a) 0 (2 ^ i)) ≡ fault_at s v
+      go (yes q) later = ap (fault-by a k) (ap (λ (y : ℕ). lowest_from (p y) 0 (2 ^ i)) q ∙ first-lowest (p s) 0 (2 ^ i) v f.2) ∙ ap (λ (y : ℕ). fault_at y v) q
       go (no o) later =
           ap (fault-by a k) (before-none (p a) 0 (2 ^ i) (λ x l m. f.3 a (omega arith) (omega (arith, o, f.0)) x (omega arith)))
           ∙ later (omega (arith, o, f.0), omega (arith, f.1), f.2, λ y l m. f.3 y (omega arith) m)
@@ -187,10 +187,10 @@ module _ (t : Listing) (bits : List ℕ) (ls : List (List ℕ)) where
   not_agrees s v e = ap not e
 
   -- its first byte tells an answer
-  ok-line : (us : List ℕ) (f : Fault) → check_line us f ≡ bytes "OK\n" → (us ≡ []) × (f ≡ Nowhere)
+  ok-line : (us : List ℕ) (f : Option Fault) → check_line us f ≡ bytes "OK\n" → (us ≡ []) × (f ≡ None)
   unfolding check_line fault_line unmet_line
-  ok-line [] (At s v) e = absurd (let z : ◌≡◌ {A = ℕ} 65 79 = ap (λ (l : List ℕ). get_or l 0 0) e in omega arith)
-  ok-line [] Nowhere e = (refl, refl)
+  ok-line [] (Some f) e = absurd (let z : ◌≡◌ {A = ℕ} 65 79 = ap (λ (l : List ℕ). get_or l 0 0) e in omega arith)
+  ok-line [] None e = (refl, refl)
   ok-line (u ∷ us) f e = absurd (let z : ◌≡◌ {A = ℕ} 85 79 = ap (λ (l : List ℕ). get_or l 0 0) e in omega arith)
 
   pub says-ok : check_text t bits ls ≡ bytes "OK\n" → (unmet-ones ≡ []) × ((s : ℕ) → s < n → (v : ℕ) → v < 2 ^ i → Agrees s v)
@@ -215,7 +215,7 @@ module _ (t : Listing) (bits : List ℕ) (ls : List (List ℕ)) where
       (found_at (fails t bits ls) i 0 n s v
       (omega arith, omega (arith, f.0), (omega arith, omega (arith, f.1), f.2, λ x l m. not_agrees s x (f.3 x m)), λ y l m x b. not_agrees y x (f.4 y m x b)))
 
-  pub fault-first : (s v : ℕ) → fault_of t bits ls ≡ At (record { 0 = s }) v → FirstFault s v
+  pub fault-first : (s v : ℕ) → fault_of t bits ls ≡ fault_at s v → FirstFault s v
   unfolding fault_of
   fault-first s v e =
       let f = at-found (fails t bits ls) i 0 n s v e in

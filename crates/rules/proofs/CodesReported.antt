@@ -1,4 +1,6 @@
 -- The `SC` lines that stand in a report's text are the lines of its states, in order, and no others.
+use Rattle.rules.specs.declared.BitNumber.{BitNumber}
+use Rattle.std.specs.Prelude.{Option, Some, None}
 use mathlib.Core.Path.{◌≡◌, refl, sym, ap, subst, ◌∙◌}
 use mathlib.Core.Bool.{Bool, true, false, ◌&&◌, cond}
 use mathlib.Core.List.{List, [], ◌∷◌, ◌++◌, map, append-nil, append_assoc}
@@ -14,8 +16,6 @@ use Rattle.rules.specs.Code.{Code, unmet}
 use Rattle.rules.specs.Report.{count_line, state_line, met_line, unmet_line, met_lines, joined_lines, report_lines, report}
 use Rattle.rules.specs.declared.Listing.{Listing}
 use Rattle.rules.specs.declared.Requirement.{Requirement}
-use Rattle.rules.specs.declared.Judgement.{Judgement}
-use Rattle.rules.specs.declared.Judgement.TheVariants.{By, ByNone}
 use Rattle.rules.proofs.Ended.{Ended, ended-body, lines-first}
 use Rattle.rules.proofs.ReportLines.{count-ended, met-ended, unmet-ended, end-ended}
 use Rattle.rules.proofs.CodesBack.{codes_text, code_line, state-line, line-without, line-mark}
@@ -102,9 +102,9 @@ unfolding met_lines met_line
 mets-aside k n bits [] = no_line
 mets-aside k n bits (r ∷ rs) = go (judgement n bits r) (mets-aside (suc k) n bits rs)
   where
-    go : (j : Judgement) → Aside (met_lines (suc k) n bits rs) → Aside (elim j [ By b ↦ met_line (record { 0 = k }) b ∷ met_lines (suc k) n bits rs | ByNone ↦ met_lines (suc k) n bits rs ])
-    go (By b) a = line (met-ended (record { 0 = k }) b) (λ (e : ◌≡◌ {A = ℕ} 66 83). omega arith) a
-    go ByNone a = a
+    go : (j : Option BitNumber) → Aside (met_lines (suc k) n bits rs) → Aside (elim j [ Some b ↦ met_line (record { 0 = k }) b ∷ met_lines (suc k) n bits rs | None ↦ met_lines (suc k) n bits rs ])
+    go (Some b) a = line (met-ended (record { 0 = k }) b) (λ (e : ◌≡◌ {A = ℕ} 66 83). omega arith) a
+    go None a = a
 
 pub codes-reported : (t : Listing) (c : Code) → codes_in (report t c) ≡ codes_text t.head.states c.bits
 unfolding report report_lines joined_lines count_line unmet_line

@@ -1,4 +1,6 @@
 -- A cover of ours, read as one from elsewhere: each line is taken, there are as many rows as `.p` says, and `.i` and `.o` fit the listing and its code.
+use Rattle.rules.specs.declared.Refusal.{Refusal}
+use Rattle.std.specs.Prelude.{Result, Option, Ok, Err, Some, None}
 use mathlib.Core.Path.{◌≡◌, refl, ap, ap₂, ◌∙◌}
 use mathlib.Core.Bool.{Bool, true, false, ◌&&◌, ◌||◌, not, cond}
 use mathlib.Core.List.{List, [], ◌∷◌, ◌++◌, map}
@@ -21,13 +23,10 @@ use Rattle.rules.specs.CheckTexts.{number_behind, places_fit, row_good, no_heads
 use Rattle.rules.specs.declared.Head.{Head}
 use Rattle.rules.specs.declared.Row.{Row}
 use Rattle.rules.specs.declared.Listing.{Listing}
-use Rattle.rules.specs.declared.Numeral.{Numeral}
-use Rattle.rules.specs.declared.Numeral.TheVariants.{Is, Bad}
 use Rattle.rules.specs.declared.Verdict.{Verdict}
 use Rattle.rules.specs.declared.CoverPart.{CoverPart}
 use Rattle.rules.specs.declared.CoverPart.TheVariants.{Outputs, Kind, Products, Rows, Over}
 use Rattle.rules.specs.declared.CoverHeads.{CoverHeads}
-use Rattle.rules.specs.declared.CoverLine.{CoverLine}
 use Rattle.rules.proofs.Fields.{none, more, split-last, split-part}
 use Rattle.rules.proofs.Decimal.{decimal-without}
 use Rattle.rules.proofs.Most.{states-length}
@@ -49,11 +48,11 @@ module _ (c v : ℕ) (apart : c ≡ space → ⊥) where
       split-part space (dot ∷ (c ∷ [])) (decimal v) (more {x = dot} (λ e. omega arith) (more apart none))
       ∙ ap {B = List (List ℕ)} (λ ls. (dot ∷ (c ∷ [])) ∷ ls) (split-last space (decimal v) (decimal-without space (omega arith) v))
 
-  number_behind_lem : v < 10000 → number_behind (dot ∷ (c ∷ [])) (dot ∷ (c ∷ (space ∷ decimal v))) ≡ Is v
+  number_behind_lem : v < 10000 → number_behind (dot ∷ (c ∷ [])) (dot ∷ (c ∷ (space ∷ decimal v))) ≡ Some v
   unfolding number_behind marked mark_of
   number_behind_lem h =
-      ap (λ (fs : List (List ℕ)). cond (eqb (length fs) 2 && same (get_or fs 0 []) (dot ∷ (c ∷ []))) (numeral_of (get_or fs 1 [])) Bad) mark-fields
-      ∙ ap (λ (b : Bool). cond b (numeral_of (decimal v)) Bad) (same_self (dot ∷ (c ∷ [])))
+      ap (λ (fs : List (List ℕ)). cond (eqb (length fs) 2 && same (get_or fs 0 []) (dot ∷ (c ∷ []))) (numeral_of (get_or fs 1 [])) None) mark-fields
+      ∙ ap (λ (b : Bool). cond b (numeral_of (decimal v)) None) (same_self (dot ∷ (c ∷ [])))
       ∙ numeral-read v h
 
 -- ---- a row
@@ -155,21 +154,21 @@ module _ (head : Head) (bits : List ℕ) (rs : List Row) (r : Row) where
 -- ---- line by line
 
 -- a line that is taken, and that others follow
-cover-some : (i o k : ℕ) (h g : CoverHeads) (l : List ℕ) (ls : List (List ℕ)) → 1 ≤ length ls → cover_line h l ≡ CoverLine.Read g → cover_from i o k h (l ∷ ls) ≡ cover_from i o (k + 1) g ls
+cover-some : (i o k : ℕ) (h g : CoverHeads) (l : List ℕ) (ls : List (List ℕ)) → 1 ≤ length ls → cover_line h l ≡ Ok g → cover_from i o k h (l ∷ ls) ≡ cover_from i o (k + 1) g ls
 unfolding cover_from
 cover-some i o k h g l [] some e = absurd (omega arith)
-cover-some i o k h g l (m ∷ ms) some e = ap (λ (x : CoverLine). elim x [ CoverLine.Read g ↦ cover_from i o (k + 1) g (m ∷ ms) | CoverLine.Refused r ↦ Verdict.Refused r k ]) e
+cover-some i o k h g l (m ∷ ms) some e = ap (λ (x : Result CoverHeads Refusal). elim x [ Ok g ↦ cover_from i o (k + 1) g (m ∷ ms) | Err r ↦ Verdict.Refused r k ]) e
 
 module _ (i o p : ℕ) where
   -- behind so many rows
   abbrev behind : ℕ → CoverHeads
   behind m = record { part = Rows; inputs = i; outputs = o; products = p; rows = m }
 
-  row-taken : (m : ℕ) (l : List ℕ) → m < p → m < most_checked → same l (bytes ".e") ≡ false → row_good (behind m) l ≡ true → cover_line (behind m) l ≡ CoverLine.Read (behind (m + 1))
+  row-taken : (m : ℕ) (l : List ℕ) → m < p → m < most_checked → same l (bytes ".e") ≡ false → row_good (behind m) l ≡ true → cover_line (behind m) l ≡ Ok (behind (m + 1))
   unfolding cover_line cover_line_in row_counted
   row-taken m l h q e good = rw (e, good, lt-ltb m p h, lt-ltb m most_checked q) refl
 
-  end-taken : (m : ℕ) → m ≡ p → cover_line (behind m) (bytes ".e") ≡ CoverLine.Read (in_part Over (behind m))
+  end-taken : (m : ℕ) → m ≡ p → cover_line (behind m) (bytes ".e") ≡ Ok (in_part Over (behind m))
   unfolding cover_line cover_line_in end_counted same
   end-taken m e = rw (eq-eqb m p e) refl
 
@@ -198,11 +197,11 @@ heads-back : (i o p : ℕ) (body : List (List ℕ)) → i < 10000 → o < 10000 
 unfolding cover_reading cover_line cover_line_in same
 heads-back i o p body few-in few-out few some =
     cover-some i o 1 no_heads (headed Outputs i 0 0) (bytes ".i " ++ decimal i) (outs ∷ (bytes ".type fd" ∷ (count ∷ body))) (omega arith)
-    (ap (λ (x : Numeral). with_inputs x no_heads) (number_behind_lem 105 i (λ e. omega arith) few-in))
+    (ap (λ (x : Option ℕ). with_inputs x no_heads) (number_behind_lem 105 i (λ e. omega arith) few-in))
     ∙ cover-some i o 2 (headed Outputs i 0 0) (headed Kind i o 0) outs (bytes ".type fd" ∷ (count ∷ body)) (omega arith)
-    (ap (λ (x : Numeral). with_outputs x (headed Outputs i 0 0)) (number_behind_lem 111 o (λ e. omega arith) few-out))
+    (ap (λ (x : Option ℕ). with_outputs x (headed Outputs i 0 0)) (number_behind_lem 111 o (λ e. omega arith) few-out))
     ∙ cover-some i o 3 (headed Kind i o 0) (headed Products i o 0) (bytes ".type fd") (count ∷ body) (omega arith) refl
-    ∙ cover-some i o 4 (headed Products i o 0) (behind i o p 0) count body some (ap (λ (x : Numeral). with_products x (headed Products i o 0)) (number_behind_lem 112 p (λ e. omega arith) few))
+    ∙ cover-some i o 4 (headed Products i o 0) (behind i o p 0) count body some (ap (λ (x : Option ℕ). with_products x (headed Products i o 0)) (number_behind_lem 112 p (λ e. omega arith) few))
   where
     outs : List ℕ
     outs = bytes ".o " ++ decimal o

@@ -1,4 +1,5 @@
 -- A number in decimal, digit by digit: any bound that is large enough gives the same digits, no other byte stands among them, and they read back as the number.
+use Rattle.std.specs.Prelude.{Option, Some, None}
 use mathlib.Core.Path.{◌≡◌, refl, sym, ap, ◌∙◌}
 use mathlib.Core.Bool.{Bool, true, false, ◌&&◌, cond, true≢false}
 use mathlib.Core.List.{List, [], ◌∷◌, ◌++◌}
@@ -9,8 +10,6 @@ use lib.Dec.{leb, ltb}
 use borrow.Author.Tests.{le-leb, lt-ltb, le-ltb, ltb-true, ltb-false}
 use lib.ListN.{length, length-append}
 use Rattle.rules.specs.Text.{nought, nine, digits_of, decimal_in, decimal}
-use Rattle.rules.specs.declared.Numeral.{Numeral}
-use Rattle.rules.specs.declared.Numeral.TheVariants.{Is, Bad}
 use Rattle.rules.proofs.Fields.{Without, none, more, without-append}
 
 -- one digit, whatever the bound
@@ -90,43 +89,43 @@ module _ (q : ℕ) (low : q < nought) where
 -- ---- read back
 
 -- the number in a numeral
-number_in : Numeral → ℕ
-number_in (Is v) = v
-number_in Bad = 0
+number_in : Option ℕ → ℕ
+number_in (Some v) = v
+number_in None = 0
 
 -- the numeral is a number
-is_number : Numeral → Bool
-is_number (Is v) = true
-is_number Bad = false
+is_number : Option ℕ → Bool
+is_number (Some v) = true
+is_number None = false
 
 -- one digit behind those that make v
-one_more : (a d v : ℕ) (xs : List ℕ) → d < 10 → digits_of a xs ≡ Is v → digits_of a (xs ++ ((nought + d) ∷ [])) ≡ Is (v * 10 + d)
+one_more : (a d v : ℕ) (xs : List ℕ) → d < 10 → digits_of a xs ≡ Some v → digits_of a (xs ++ ((nought + d) ∷ [])) ≡ Some (v * 10 + d)
 unfolding digits_of number_in is_number
 one_more a d v [] h e =
     let same : a ≡ v = ap number_in e in
     let value : a * 10 + (nought + d - nought) ≡ v * 10 + d = omega arith in
-    rw (le-leb nought (nought + d) (omega arith), le-leb (nought + d) nine (omega arith)) (ap Is value)
+    rw (le-leb nought (nought + d) (omega arith), le-leb (nought + d) nine (omega arith)) (ap Some value)
 one_more a d v (x ∷ xs) h e = go (leb nought x && leb x nine) e (one_more (a * 10 + (x - nought)) d v xs h)
   where
-    go : (t : Bool) → cond t (digits_of (a * 10 + (x - nought)) xs) Bad ≡ Is v
-        → (digits_of (a * 10 + (x - nought)) xs ≡ Is v → digits_of (a * 10 + (x - nought)) (xs ++ ((nought + d) ∷ [])) ≡ Is (v * 10 + d))
-        → cond t (digits_of (a * 10 + (x - nought)) (xs ++ ((nought + d) ∷ []))) Bad ≡ Is (v * 10 + d)
+    go : (t : Bool) → cond t (digits_of (a * 10 + (x - nought)) xs) None ≡ Some v
+        → (digits_of (a * 10 + (x - nought)) xs ≡ Some v → digits_of (a * 10 + (x - nought)) (xs ++ ((nought + d) ∷ [])) ≡ Some (v * 10 + d))
+        → cond t (digits_of (a * 10 + (x - nought)) (xs ++ ((nought + d) ∷ []))) None ≡ Some (v * 10 + d)
     go true q later = later q
     go false q later = absurd (true≢false (sym (ap is_number q)))
 
-pub decimal-read : (v : ℕ) → digits_of 0 (decimal v) ≡ Is v
+pub decimal-read : (v : ℕ) → digits_of 0 (decimal v) ≡ Some v
 unfolding digits_of
 decimal-read v = reads v v (omega arith)
   where
-    reads : (f v : ℕ) → v ≤ f → digits_of 0 (decimal v) ≡ Is v
-    reads zero v h = rw (decimal-low v (omega arith)) (one_more 0 v 0 [] (omega arith) refl ∙ ap Is (omega arith))
+    reads : (f v : ℕ) → v ≤ f → digits_of 0 (decimal v) ≡ Some v
+    reads zero v h = rw (decimal-low v (omega arith)) (one_more 0 v 0 [] (omega arith) refl ∙ ap Some (omega arith))
     reads (suc f) v h = go (ltb v 10) refl (reads f (v / 10))
       where
-        go : (t : Bool) → ltb v 10 ≡ t → (v / 10 ≤ f → digits_of 0 (decimal (v / 10)) ≡ Is (v / 10)) → digits_of 0 (decimal v) ≡ Is v
-        go true e ih = rw (decimal-low v (ltb-true v 10 e)) (one_more 0 v 0 [] (ltb-true v 10 e) refl ∙ ap Is (omega arith))
+        go : (t : Bool) → ltb v 10 ≡ t → (v / 10 ≤ f → digits_of 0 (decimal (v / 10)) ≡ Some (v / 10)) → digits_of 0 (decimal v) ≡ Some v
+        go true e ih = rw (decimal-low v (ltb-true v 10 e)) (one_more 0 v 0 [] (ltb-true v 10 e) refl ∙ ap Some (omega arith))
         go false e ih =
             let b : 10 ≤ v = ltb-false v 10 e in
-            rw (decimal-more v b) (one_more 0 (v % 10) (v / 10) (decimal (v / 10)) (omega arith) (ih (omega arith)) ∙ ap Is (omega arith))
+            rw (decimal-more v b) (one_more 0 (v % 10) (v / 10) (decimal (v / 10)) (omega arith) (ih (omega arith)) ∙ ap Some (omega arith))
 
 -- two numbers that are written alike are one
 pub decimal-same : (a b : ℕ) → decimal a ≡ decimal b → a ≡ b

@@ -1,5 +1,6 @@
 -- What an accepted flow table gives: a listing without rows, whose requirements are the pairs of its states and then the dichotomies of its columns, in which each destination is
 -- stable.
+use Rattle.std.specs.Prelude.{Ok}
 use mathlib.Core.Path.{◌≡◌, refl, sym, ap, ◌∙◌}
 use mathlib.Core.Bool.{Bool, true, false, cond}
 use mathlib.Core.List.{List, [], ◌∷◌, ◌++◌, append_assoc}
@@ -25,7 +26,6 @@ use Rattle.rules.specs.declared.Listing.{Listing}
 use Rattle.rules.specs.declared.Refusal.{Refusal}
 use Rattle.rules.specs.declared.Refusal.TheVariants.{BadLine, Limit, Place, Unstable}
 use Rattle.rules.specs.declared.Verdict.{Verdict}
-use Rattle.rules.specs.declared.HeadLine.{HeadLine}
 use Rattle.rules.specs.declared.Reading.{Reading}
 use Rattle.rules.proofs.Sound.{flow_after, flow-on, flow-none, flow-last, read_by, all_two}
 
@@ -35,7 +35,7 @@ pub record IsFlow (s : List ℕ) (h : Head) (columns : List (List ℕ)) : Type 0
   pub second : List ℕ
   pub others : List (List ℕ)
   pub lines : lines_of s ≡ first ∷ (second ∷ others)
-  pub head : flow_head first second ≡ HeadLine.Read h
+  pub head : flow_head first second ≡ Ok h
   pub is : columns ≡ columns_of h.states (column_count (second ∷ others)) (take h.states (second ∷ others))
 
 pub record FlowGiven (h : Head) (columns : List (List ℕ)) (t : Listing) : Type 0 where

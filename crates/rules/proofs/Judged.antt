@@ -1,4 +1,5 @@
 -- The judgement of a requirement against a code is the lowest bit that meets it, or that none does; and a code meets what one of its bits meets.
+use Rattle.std.specs.Prelude.{Option, Some, None}
 use mathlib.Core.Path.{◌≡◌, refl, sym, ap, ◌∙◌}
 use mathlib.Core.Logic.{◌⊎◌, inl, inr, ⊎_elim}
 use mathlib.Core.Bool.{Bool, true, false, ◌||◌, cond, true≢false}
@@ -10,8 +11,6 @@ use lib.ListN.{length, get_or}
 use Rattle.rules.specs.Requirements.{met, judged_from, judgement, is_by, met_by_code}
 use Rattle.rules.specs.declared.Requirement.{Requirement}
 use Rattle.rules.specs.declared.BitNumber.{BitNumber}
-use Rattle.rules.specs.declared.Judgement.{Judgement}
-use Rattle.rules.specs.declared.Judgement.TheVariants.{By, ByNone}
 
 -- bit j of the code meets r, and no earlier bit does
 pub record FirstMeets (n : ℕ) (bits : List ℕ) (r : Requirement) (j : ℕ) : Type 0 where
@@ -48,7 +47,7 @@ first_or_none n (b ∷ bs) r = go (met n r b) refl (first_or_none n bs r)
 -- ---- the judgement says which
 
 module _ (k n b : ℕ) (bs : List ℕ) (r : Requirement) where
-  pub judged-here : met n r b ≡ true → judged_from k n (b ∷ bs) r ≡ By (record { 0 = k })
+  pub judged-here : met n r b ≡ true → judged_from k n (b ∷ bs) r ≡ Some (record { 0 = k })
   unfolding judged_from
   judged-here e = rw (e)
 
@@ -56,33 +55,33 @@ module _ (k n b : ℕ) (bs : List ℕ) (r : Requirement) where
   unfolding judged_from
   judged-later e = rw (e)
 
-first-from : (k n : ℕ) (bits : List ℕ) (r : Requirement) (j : ℕ) → FirstMeets n bits r j → judged_from k n bits r ≡ By (record { 0 = k + j })
+first-from : (k n : ℕ) (bits : List ℕ) (r : Requirement) (j : ℕ) → FirstMeets n bits r j → judged_from k n bits r ≡ Some (record { 0 = k + j })
 first-from k n [] r j f = absurd (omega (arith, f.below))
-first-from k n (b ∷ bs) r zero f = judged-here k n b bs r f.meets ∙ ap (λ (i : ℕ). By (record { 0 = i })) (sym (add-zero k))
+first-from k n (b ∷ bs) r zero f = judged-here k n b bs r f.meets ∙ ap (λ (i : ℕ). Some (record { 0 = i })) (sym (add-zero k))
 first-from k n (b ∷ bs) r (suc j) f =
     let later : FirstMeets n bs r j = record { below = omega (arith, f.below); meets = f.meets; earlier = λ i h. f.earlier (suc i) (omega arith) } in
-    judged-later k n b bs r (f.earlier 0 (omega arith)) ∙ first-from (suc k) n bs r j later ∙ ap (λ (i : ℕ). By (record { 0 = i })) (omega arith)
+    judged-later k n b bs r (f.earlier 0 (omega arith)) ∙ first-from (suc k) n bs r j later ∙ ap (λ (i : ℕ). Some (record { 0 = i })) (omega arith)
 
-none_from : (k n : ℕ) (bits : List ℕ) (r : Requirement) → MetByNone n bits r → judged_from k n bits r ≡ ByNone
+none_from : (k n : ℕ) (bits : List ℕ) (r : Requirement) → MetByNone n bits r → judged_from k n bits r ≡ None
 unfolding judged_from
 none_from k n [] r f = refl
 none_from k n (b ∷ bs) r f = judged-later k n b bs r (f 0 (omega arith)) ∙ none_from (suc k) n bs r (λ j h. f (suc j) (omega arith))
 
 -- the number in a judgement
-number_in : Judgement → ℕ
-number_in (By b) = b.0
-number_in ByNone = 0
+number_in : Option BitNumber → ℕ
+number_in (Some b) = b.0
+number_in None = 0
 
 module _ (n : ℕ) (bits : List ℕ) (r : Requirement) where
-  pub by-judged : (j : ℕ) → FirstMeets n bits r j → judgement n bits r ≡ By (record { 0 = j })
+  pub by-judged : (j : ℕ) → FirstMeets n bits r j → judgement n bits r ≡ Some (record { 0 = j })
   unfolding judgement
-  by-judged j f = first-from 0 n bits r j f ∙ ap (λ (i : ℕ). By (record { 0 = i })) (omega arith)
+  by-judged j f = first-from 0 n bits r j f ∙ ap (λ (i : ℕ). Some (record { 0 = i })) (omega arith)
 
-  pub none-judged : MetByNone n bits r → judgement n bits r ≡ ByNone
+  pub none-judged : MetByNone n bits r → judgement n bits r ≡ None
   unfolding judgement
   none-judged f = none_from 0 n bits r f
 
-  pub judged-by : (b : BitNumber) → judgement n bits r ≡ By b → FirstMeets n bits r b.0
+  pub judged-by : (b : BitNumber) → judgement n bits r ≡ Some b → FirstMeets n bits r b.0
   unfolding number_in is_by
   judged-by b e =
       ⊎_elim
@@ -90,7 +89,7 @@ module _ (n : ℕ) (bits : List ℕ) (r : Requirement) where
       (λ f. absurd (true≢false (ap is_by (sym e ∙ none-judged f))))
       (first_or_none n bits r)
 
-  pub judged-none : judgement n bits r ≡ ByNone → MetByNone n bits r
+  pub judged-none : judgement n bits r ≡ None → MetByNone n bits r
   unfolding is_by
   judged-none e = ⊎_elim (λ f. absurd (true≢false (ap is_by (sym (by-judged f.0 f.1) ∙ e)))) (λ f. f) (first_or_none n bits r)
 
@@ -102,7 +101,7 @@ unfolding judged_from is_by
 is-by-from k j n [] r = refl
 is-by-from k j n (b ∷ bs) r = go (met n r b) (is-by-from (suc k) (suc j) n bs r)
   where
-    go : (t : Bool) → is_by (judged_from (suc k) n bs r) ≡ is_by (judged_from (suc j) n bs r) → is_by (cond t (By (record { 0 = k })) (judged_from (suc k) n bs r)) ≡ is_by (cond t (By (record { 0 = j })) (judged_from (suc j) n bs r))
+    go : (t : Bool) → is_by (judged_from (suc k) n bs r) ≡ is_by (judged_from (suc j) n bs r) → is_by (cond t (Some (record { 0 = k })) (judged_from (suc k) n bs r)) ≡ is_by (cond t (Some (record { 0 = j })) (judged_from (suc j) n bs r))
     go true q = refl
     go false q = q
 
@@ -114,15 +113,15 @@ pub met-by-cons : (n b : ℕ) (bs : List ℕ) (r : Requirement) → met_by_code 
 unfolding met_by_code judgement judged_from is_by
 met-by-cons n b bs r = go (met n r b)
   where
-    go : (t : Bool) → is_by (cond t (By (record { 0 = 0 })) (judged_from 1 n bs r)) ≡ (t || is_by (judged_from 0 n bs r))
+    go : (t : Bool) → is_by (cond t (Some (record { 0 = 0 })) (judged_from 1 n bs r)) ≡ (t || is_by (judged_from 0 n bs r))
     go true = refl
     go false = is-by-from 1 0 n bs r
 
 module _ (n : ℕ) (bits : List ℕ) (r : Requirement) where
-  pub met-judged : (b : BitNumber) → judgement n bits r ≡ By b → met_by_code n bits r ≡ true
+  pub met-judged : (b : BitNumber) → judgement n bits r ≡ Some b → met_by_code n bits r ≡ true
   unfolding met_by_code is_by
   met-judged b e = ap is_by e
 
-  pub unmet-judged : judgement n bits r ≡ ByNone → met_by_code n bits r ≡ false
+  pub unmet-judged : judgement n bits r ≡ None → met_by_code n bits r ≡ false
   unfolding met_by_code is_by
   unmet-judged e = ap is_by e

@@ -1,4 +1,5 @@
 -- What an accepted KISS2 text grants: a sound listing without a conflict, so that all that is proved of listings holds of it; and the line of a refusal is small.
+use Rattle.std.specs.Prelude.{Option, Some, None}
 use mathlib.Core.Path.{◌≡◌, refl, ap, ◌∙◌, subst}
 use mathlib.Core.Bool.{Bool, true, false, ◌&&◌, ◌||◌, not, cond, false≢true}
 use mathlib.Core.List.{List, [], ◌∷◌, ◌++◌, map}
@@ -32,8 +33,6 @@ use Rattle.rules.specs.declared.Told.{Told}
 use Rattle.rules.specs.declared.Pattern.{Pattern}
 use Rattle.rules.specs.declared.Row.{Row}
 use Rattle.rules.specs.declared.Listing.{Listing}
-use Rattle.rules.specs.declared.Numeral.{Numeral}
-use Rattle.rules.specs.declared.Numeral.TheVariants.{Is, Bad}
 use Rattle.rules.specs.declared.Refusal.{Refusal}
 use Rattle.rules.specs.declared.Refusal.TheVariants.{BadLine, Limit, Place, Names}
 use Rattle.rules.specs.declared.Verdict.{Verdict}
@@ -176,9 +175,9 @@ module _ (m : ℕ) (d : Draft) (s : SoundDraft m d) where
       let c = chose-first (leb 1 n && leb n most_outputs) e (stops-not Limit u) in
       subst (SoundDraft m) (goes_same _ _ c.1) (early-sound (with_outputs n d.heads) s.few-inputs (leb-true n most_outputs (and_second (leb 1 n) _ c.0)) s.states-line s.products-line z)
 
-  number-sound : (x : Numeral) (f : ℕ → KissStep) (u : Draft) → ((n : ℕ) → f n ≡ goes u → SoundDraft m u) → on_number x f ≡ goes u → SoundDraft m u
-  number-sound (Is n) f u g e = g n e
-  number-sound Bad f u g e = absurd (stops-not BadLine u e)
+  number-sound : (x : Option ℕ) (f : ℕ → KissStep) (u : Draft) → ((n : ℕ) → f n ≡ goes u → SoundDraft m u) → on_number x f ≡ goes u → SoundDraft m u
+  number-sound (Some n) f u g e = g n e
+  number-sound None f u g e = absurd (stops-not BadLine u e)
 
   reset-sound : (l : List ℕ) (u : Draft) → d.heads.lines ≡ 0 → reset_does d l ≡ goes u → SoundDraft m u
   unfolding reset_does is_short
@@ -403,9 +402,9 @@ choice-not : (b : Bool) (x y : KissStep) → (x ≡ ends → ⊥) → (y ≡ end
 choice-not true x y p q e = p e
 choice-not false x y p q e = q e
 
-number-ends : (x : Numeral) (f : ℕ → KissStep) → ((n : ℕ) → f n ≡ ends → ⊥) → on_number x f ≡ ends → ⊥
-number-ends (Is n) f g e = g n e
-number-ends Bad f g e = stops-ends BadLine e
+number-ends : (x : Option ℕ) (f : ℕ → KissStep) → ((n : ℕ) → f n ≡ ends → ⊥) → on_number x f ≡ ends → ⊥
+number-ends (Some n) f g e = g n e
+number-ends None f g e = stops-ends BadLine e
 
 inputs-go : (d : Draft) (n : ℕ) → inputs_do d n ≡ ends → ⊥
 unfolding inputs_do

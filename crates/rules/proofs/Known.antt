@@ -1,4 +1,6 @@
 -- P1 to P10 of 01, "Known examples", a sequencer, Table III of 001, and some recorded runs, and some codes and covers that are checked: one table, one test that is computed over all of it, and the law that makes it each case's statement.
+use Rattle.rules.specs.declared.Refusal.{Refusal}
+use Rattle.std.specs.Prelude.{Result, Ok, Err}
 use mathlib.Core.Path.{◌≡◌, refl, ap₂}
 use mathlib.Core.Bool.{Bool, true, false, ◌&&◌}
 use mathlib.Core.List.{List, [], ◌∷◌, map}
@@ -23,7 +25,6 @@ use Rattle.rules.specs.Replay.{replay_reply}
 use Rattle.rules.specs.Check.{check_reply}
 use Rattle.rules.specs.declared.Head.{Head}
 use Rattle.rules.specs.declared.Requirement.{Requirement}
-use Rattle.rules.specs.declared.HeadLine.{HeadLine}
 
 -- ---- codes and requirements as 01 writes them
 
@@ -207,7 +208,7 @@ Holds (leasts listing text) = printed (least_reply (bytes listing)) ≡ bytes te
 Holds (least-covers listing text) = printed (least_cover_reply (bytes listing)) ≡ bytes text
 Holds (replays listing run text) = printed (replay_reply (bytes listing) (bytes run)) ≡ bytes text
 Holds (checks listing codes cover text) = printed (check_reply (bytes listing) (bytes codes) (bytes cover)) ≡ bytes text
-Holds (reads line head) = head_line head.moore (bytes line) ≡ HeadLine.Read head
+Holds (reads line head) = head_line head.moore (bytes line) ≡ Ok head
 Holds (faces codes group text) =
     (face (length codes) (bits_of codes) (set_of one (bytes group)) ≡ bytes text)
     × (all_met (length codes) (bits_of codes) (group_asks (length codes) (set_of one (bytes group))) ≡ true)
@@ -220,9 +221,9 @@ AllHold (c ∷ cs) = Holds c × AllHold cs
 
 -- ---- the test
 
-same_head : HeadLine → Head → Bool
-same_head (HeadLine.Read a) b = eqb a.states b.states && eqb a.inputs b.inputs && eqb a.outputs b.outputs && eqb a.width b.width && eqb (digit a.keeps) (digit b.keeps) && eqb (digit a.moore) (digit b.moore)
-same_head (HeadLine.Refused r) b = false
+same_head : Result Head Refusal → Head → Bool
+same_head (Ok a) b = eqb a.states b.states && eqb a.inputs b.inputs && eqb a.outputs b.outputs && eqb a.width b.width && eqb (digit a.keeps) (digit b.keeps) && eqb (digit a.moore) (digit b.moore)
+same_head (Err r) b = false
 
 same_asked : List Requirement → List Requirement → Bool
 same_asked [] [] = true
@@ -282,9 +283,9 @@ digit-same true false e = absurd (omega arith)
 digit-same false true e = absurd (omega arith)
 digit-same false false e = refl
 
-head-eq : (a : HeadLine) (b : Head) → same_head a b ≡ true → a ≡ HeadLine.Read b
+head-eq : (a : Result Head Refusal) (b : Head) → same_head a b ≡ true → a ≡ Ok b
 unfolding same_head
-head-eq (HeadLine.Read a) b e =
+head-eq (Ok a) b e =
     let to-states = eqb a.states b.states in
     let to-inputs = to-states && eqb a.inputs b.inputs in
     let to-outputs = to-inputs && eqb a.outputs b.outputs in
@@ -300,8 +301,8 @@ head-eq (HeadLine.Read a) b e =
     let w : a.width ≡ b.width = eqb-true _ _ (and_second to-outputs (eqb a.width b.width) e₄) in
     let k : a.keeps ≡ b.keeps = digit-same a.keeps b.keeps (eqb-true _ _ (and_second to-width (eqb (digit a.keeps) (digit b.keeps)) e₅)) in
     let m : a.moore ≡ b.moore = digit-same a.moore b.moore (eqb-true _ _ (and_second to-keeps (eqb (digit a.moore) (digit b.moore)) e)) in
-    λ i. HeadLine.Read (record { states = p i; inputs = q i; outputs = r i; width = w i; keeps = k i; moore = m i })
-head-eq (HeadLine.Refused r) b e = absurd (let z : ◌≡◌ {A = ℕ} 0 1 = cc in omega arith)
+    λ i. Ok (record { states = p i; inputs = q i; outputs = r i; width = w i; keeps = k i; moore = m i })
+head-eq (Err r) b e = absurd (let z : ◌≡◌ {A = ℕ} 0 1 = cc in omega arith)
 
 right-holds : (c : Case) → right c ≡ true → Holds c
 unfolding right

@@ -1,5 +1,7 @@
 -- The line of a refusal: at most one more than the bytes of the listing, so a refusal's number and line can be told from minus (number × 100,000 + line).
-use mathlib.Core.Path.{◌≡◌, refl, sym, ap, ◌∙◌, subst}
+use Rattle.rules.specs.declared.StateOutputs.{StateOutputs}
+use Rattle.std.specs.Prelude.{Result, Ok, Err}
+use mathlib.Core.Path.{◌≡◌, refl, subst}
 use mathlib.Core.Bool.{Bool, true, false, cond}
 use mathlib.Core.List.{List, [], ◌∷◌}
 use Prim.Native.Nat.{ℕ, zero, suc, ◌+◌, ◌≤◌, ◌<◌}
@@ -26,11 +28,6 @@ use Rattle.rules.specs.declared.Mark.TheVariants.{Mc, Mo, Pt, Di, Ou, Ft, En, Un
 use Rattle.rules.specs.declared.Refusal.{Refusal}
 use Rattle.rules.specs.declared.Refusal.TheVariants.{BadLine, Limit, Place, Conflict, Unstable, NoOutputs}
 use Rattle.rules.specs.declared.Verdict.{Verdict}
-use Rattle.rules.specs.declared.HeadLine.{HeadLine}
-use Rattle.rules.specs.declared.RowLine.{RowLine}
-use Rattle.rules.specs.declared.DichotomyLine.{DichotomyLine}
-use Rattle.rules.specs.declared.OutputsLine.{OutputsLine}
-use Rattle.rules.specs.declared.EndLine.{EndLine}
 use Rattle.rules.specs.declared.Reading.{Reading}
 use Rattle.rules.proofs.SoundLines.{head-sound, row_read}
 use Rattle.rules.proofs.Sound.{goes_same, stops-not, step-placed, after, reads_on, reads_none, reads-last, flow-head, flow_after, flow-on, flow-none, flow-last, read_by, all_two, all_one, all_none}
@@ -68,9 +65,9 @@ row-numbered m t r h f j q = go (dec_lt t.rows (length t.table)) (ℕ_discrete j
         rw (set_out t.table t.rows r o, e, get_or-eq_default t.table no_row {n = t.rows} o) (omega arith)
     go (no l) (no e) = rw (get_or-set_other t.table t.rows j r no_row e) (f j (omega arith))
 
-head-numbered : (m : ℕ) (x : HeadLine) (t u : Listing) → Numbered m t → on_head x t ≡ goes u → Numbered m u
-head-numbered m (HeadLine.Read h) t u f e = subst (Numbered m) (goes_same _ _ e) f
-head-numbered m (HeadLine.Refused r) t u f e = absurd (stops-not r u e)
+head-numbered : (m : ℕ) (x : Result Head Refusal) (t u : Listing) → Numbered m t → on_head x t ≡ goes u → Numbered m u
+head-numbered m (Ok h) t u f e = subst (Numbered m) (goes_same _ _ e) f
+head-numbered m (Err r) t u f e = absurd (stops-not r u e)
 
 does-numbered : (m : ℕ) (x : Mark) (k : ℕ) (t : Listing) (l : List ℕ) (u : Listing) → k ≤ m → Numbered m t → line_does x k t l ≡ goes u → Numbered m u
 unfolding line_does
@@ -78,25 +75,25 @@ does-numbered m Mc k t l u h f e = head-numbered m (head_line false l) t u f e
 does-numbered m Mo k t l u h f e = head-numbered m (head_line true l) t u f e
 does-numbered m Pt k t l u h f e = on (row_line t.head t.rows k l) refl e
   where
-    on : (x : RowLine) → row_line t.head t.rows k l ≡ x → on_row x t ≡ goes u → Numbered m u
-    on (RowLine.Read r) q e = subst (Numbered m) (goes_same _ _ e) (row-numbered m t r (omega (arith, (row_read t.head t.rows k l r q).keeps_line)) f)
-    on (RowLine.Refused r) q e = absurd (stops-not r u e)
+    on : (x : Result Row Refusal) → row_line t.head t.rows k l ≡ x → on_row x t ≡ goes u → Numbered m u
+    on (Ok r) q e = subst (Numbered m) (goes_same _ _ e) (row-numbered m t r (omega (arith, (row_read t.head t.rows k l r q).keeps_line)) f)
+    on (Err r) q e = absurd (stops-not r u e)
 does-numbered m Di k t l u h f e = on (dichotomy_line t.head t.dichotomies l) e
   where
-    on : (x : DichotomyLine) → on_dichotomy x t ≡ goes u → Numbered m u
-    on (DichotomyLine.Read d) e = subst (Numbered m) (goes_same _ _ e) f
-    on (DichotomyLine.Refused r) e = absurd (stops-not r u e)
+    on : (x : Result Requirement Refusal) → on_dichotomy x t ≡ goes u → Numbered m u
+    on (Ok d) e = subst (Numbered m) (goes_same _ _ e) f
+    on (Err r) e = absurd (stops-not r u e)
 does-numbered m Ou k t l u h f e = on (outputs_line t.head l) e
   where
-    on : (x : OutputsLine) → on_outputs x t ≡ goes u → Numbered m u
-    on (OutputsLine.Read n p) e = subst (Numbered m) (goes_same _ _ e) f
-    on (OutputsLine.Refused r) e = absurd (stops-not r u e)
+    on : (x : Result StateOutputs Refusal) → on_outputs x t ≡ goes u → Numbered m u
+    on (Ok o) e = subst (Numbered m) (goes_same _ _ e) f
+    on (Err r) e = absurd (stops-not r u e)
 does-numbered m Ft k t l u h f e = absurd (stops-not BadLine u e)
 does-numbered m En k t l u h f e = on (end_line l) e
   where
-    on : (x : EndLine) → on_end x ≡ goes u → Numbered m u
-    on EndLine.Read e = absurd (let z : ◌≡◌ {A = ℕ} 0 1 = cc in omega arith)
-    on (EndLine.Refused r) e = absurd (stops-not r u e)
+    on : (x : Result Unit Refusal) → on_end x ≡ goes u → Numbered m u
+    on (Ok tt) e = absurd (let z : ◌≡◌ {A = ℕ} 0 1 = cc in omega arith)
+    on (Err r) e = absurd (stops-not r u e)
 does-numbered m Unknown k t l u h f e = absurd (stops-not BadLine u e)
 
 -- ---- all lines: those from number k on, of which there are at most so many
@@ -199,9 +196,9 @@ all-within m [] h n = rw all_none (lines-within m 1 blank [] (omega arith) h (bl
 all-within m (l ∷ []) h n = rw (all_one l) (lines-within m 1 blank (l ∷ []) (omega arith) h (blank-numbered m))
 all-within m (l ∷ (x ∷ xs)) h n = rw (all_two l x xs) (go (flow_head l x) refl)
   where
-    go : (y : HeadLine) → flow_head l x ≡ y → Within m (read_by y l (x ∷ xs))
-    go (HeadLine.Read g) e = flow-within m 2 g (x ∷ xs) (x ∷ xs) (omega arith) (omega (arith, (head-sound false l g (flow-head l x g e)).few-states))
-    go (HeadLine.Refused r) e = lines-within m 1 blank (l ∷ (x ∷ xs)) (omega arith) h (blank-numbered m)
+    go : (y : Result Head Refusal) → flow_head l x ≡ y → Within m (read_by y l (x ∷ xs))
+    go (Ok g) e = flow-within m 2 g (x ∷ xs) (x ∷ xs) (omega arith) (omega (arith, (head-sound false l g (flow-head l x g e)).few-states))
+    go (Err r) e = lines-within m 1 blank (l ∷ (x ∷ xs)) (omega arith) h (blank-numbered m)
 
 -- ---- the conflict
 

@@ -1,4 +1,6 @@
 -- The lines of a listing's text, read one by one: the head says the head that it was written from, a row's line the row, with the line's number.
+use Rattle.rules.specs.declared.Refusal.{Refusal}
+use Rattle.std.specs.Prelude.{Result, Ok, Err, Some}
 use mathlib.Core.Path.{◌≡◌, refl, sym, ap, ap₂, ◌∙◌}
 use mathlib.Core.Bool.{Bool, true, false, ◌&&◌, not, cond}
 use mathlib.Core.List.{List, [], ◌∷◌}
@@ -19,10 +21,7 @@ use Rattle.rules.specs.declared.Row.{Row}
 use Rattle.rules.specs.declared.Listing.{Listing}
 use Rattle.rules.specs.declared.Mark.{Mark}
 use Rattle.rules.specs.declared.Mark.TheVariants.{Mc, Pt, En}
-use Rattle.rules.specs.declared.Numeral.TheVariants.{Is}
 use Rattle.rules.specs.declared.Refusal.TheVariants.{BadLine, Place}
-use Rattle.rules.specs.declared.HeadLine.{HeadLine}
-use Rattle.rules.specs.declared.RowLine.{RowLine}
 use Rattle.rules.proofs.SoundLines.{SoundHead, SoundPattern, SoundRow}
 use Rattle.rules.proofs.Numerals.{numeral-read}
 use Rattle.rules.proofs.WrittenFields.{set-field, set-fits, ones-field, dashes-field, pattern-fits}
@@ -36,7 +35,7 @@ head-again : (h : Head) {keeps moore : Bool} → keeps ≡ h.keeps → moore ≡
 head-again h p q = ap₂ (λ (k m : Bool). record { states = h.states; inputs = h.inputs; outputs = h.outputs; width = h.width; keeps = k; moore = m }) p q
 
 numbers-back : (h : Head) → SoundHead h → h.moore ≡ false → (k : ℕ) → k ≤ 1 → eqb k 1 ≡ h.keeps
-    → head_numbers false h.states h.inputs h.outputs h.width k ≡ HeadLine.Read h
+    → head_numbers false h.states h.inputs h.outputs h.width k ≡ Ok h
 unfolding head_numbers
 numbers-back h s m k few e =
     rw (
@@ -49,10 +48,10 @@ numbers-back h s m k few e =
       le-leb h.width most_bits s.few_bits,
       le-leb k 1 few,
     )
-    (ap HeadLine.Read (head-again h e (sym m)))
+    (ap Ok (head-again h e (sym m)))
 
 numerals-back : (h : Head) → SoundHead h → h.moore ≡ false → (k : ℕ) → k ≤ 1 → eqb k 1 ≡ h.keeps
-    → head_numerals false (numeral_of (decimal h.states)) (numeral_of (decimal h.inputs)) (numeral_of (decimal h.outputs)) (numeral_of (decimal h.width)) (Is k) ≡ HeadLine.Read h
+    → head_numerals false (numeral_of (decimal h.states)) (numeral_of (decimal h.inputs)) (numeral_of (decimal h.outputs)) (numeral_of (decimal h.width)) (Some k) ≡ Ok h
 unfolding head_numerals
 numerals-back h s m k few e =
     rw (
@@ -63,13 +62,13 @@ numerals-back h s m k few e =
     )
     (numbers-back h s m k few e)
 
-pub head-back : (h : Head) → SoundHead h → h.moore ≡ false → head_line false (head_text h) ≡ HeadLine.Read h
+pub head-back : (h : Head) → SoundHead h → h.moore ≡ false → head_line false (head_text h) ≡ Ok h
 unfolding head_line fifth_of
 head-back h s m = go h.keeps refl (head-fields h)
   where
     go : (k : Bool) → h.keeps ≡ k
         → fields_of (head_text h) ≡ bytes "MC" ∷ (decimal h.states ∷ (decimal h.inputs ∷ (decimal h.outputs ∷ (decimal h.width ∷ cond k (bytes "1" ∷ []) []))))
-        → head_line false (head_text h) ≡ HeadLine.Read h
+        → head_line false (head_text h) ≡ Ok h
     go true e fields = rw fields (numerals-back h s m 1 (omega arith) (sym e))
     go false e fields = rw fields (numerals-back h s m 0 (omega arith) (sym e))
 
@@ -98,15 +97,15 @@ module _ (h : Head) (r : Row) (head : SoundHead h) (s : SoundRow h r) where
         pattern-back h.outputs r.outputs s.outputs,
       )
 
-  row-passes : (count k : ℕ) → count < most_rows → row_checked count (on_line k r) ≡ RowLine.Read (on_line k r)
+  row-passes : (count k : ℕ) → count < most_rows → row_checked count (on_line k r) ≡ Ok (on_line k r)
   unfolding row_checked
   row-passes count k room = rw (lt-leb most_rows count room, ne_eqb r.group 0 s.some, lt-leb 2 (size r.next) (omega (arith, s.one-next)))
 
-  mealy-back : (count k : ℕ) → count < most_rows → mealy_line h count k (row_text h r) ≡ RowLine.Read (on_line k r)
+  mealy-back : (count k : ℕ) → count < most_rows → mealy_line h count k (row_text h r) ≡ Ok (on_line k r)
   unfolding mealy_line
   mealy-back count k room =
       ap (λ (fs : List (List ℕ)). said fs (row_fits h (get_or fs 1 []) (get_or fs 2 []) (get_or fs 3 []) && outputs_fit h (get_or fs 4 []))) (row-fields h r)
-      ∙ ap (λ (b : Bool). cond b (row_checked count (row_of k input group next outputs)) (RowLine.Refused BadLine)) fields_fit
+      ∙ ap (λ (b : Bool). cond b (row_checked count (row_of k input group next outputs)) (Err BadLine)) fields_fit
       ∙ ap (row_checked count) (row-again k)
       ∙ row-passes count k room
     where
@@ -122,10 +121,10 @@ module _ (h : Head) (r : Row) (head : SoundHead h) (s : SoundRow h r) where
       outputs : List ℕ
       outputs = pattern_field h.outputs r.outputs
 
-      said : List (List ℕ) → Bool → RowLine
-      said fs b = cond (eqb (length fs) 5 && b) (row_checked count (row_of k (get_or fs 1 []) (get_or fs 2 []) (get_or fs 3 []) (get_or fs 4 []))) (RowLine.Refused BadLine)
+      said : List (List ℕ) → Bool → Result Row Refusal
+      said fs b = cond (eqb (length fs) 5 && b) (row_checked count (row_of k (get_or fs 1 []) (get_or fs 2 []) (get_or fs 3 []) (get_or fs 4 []))) (Err BadLine)
 
-  pub row_back : (count k : ℕ) → h.moore ≡ false → count < most_rows → row_line h count k (row_text h r) ≡ RowLine.Read (on_line k r)
+  pub row_back : (count k : ℕ) → h.moore ≡ false → count < most_rows → row_line h count k (row_text h r) ≡ Ok (on_line k r)
   unfolding row_line
   row_back count k m room = ap (λ (b : Bool). cond b (moore_line h count k (row_text h r)) (mealy_line h count k (row_text h r))) m ∙ mealy-back count k room
 
@@ -155,7 +154,7 @@ end_mark = refl
 
 pub head_step : (h : Head) → SoundHead h → h.moore ≡ false → (t : Listing) → line_step 1 t (head_text h) ≡ goes (with_head h t)
 unfolding placed line_does
-head_step h s m t = step_of Mc 1 t (head_text h) (head-mark h) ∙ ap (λ (x : HeadLine). on_head x t) (head-back h s m)
+head_step h s m t = step_of Mc 1 t (head_text h) (head-mark h) ∙ ap (λ (x : Result Head Refusal). on_head x t) (head-back h s m)
 
 later : (k : ℕ) → 2 ≤ k → eqb k 1 ≡ false
 later k h = ne_eqb k 1 (λ e. omega arith)
@@ -166,7 +165,7 @@ unfolding placed line_does
 row_step r k t head s m h room =
     step_of Pt k t (row_text t.head r) (row-mark t.head r)
     ∙ ap (λ (b : Bool). cond (not b) (on_row (row_line t.head t.rows k (row_text t.head r)) t) (stops Place)) (later k h)
-    ∙ ap (λ (x : RowLine). on_row x t) (row_back t.head r head s t.rows k m room)
+    ∙ ap (λ (x : Result Row Refusal). on_row x t) (row_back t.head r head s t.rows k m room)
 
 pub end_step : (k : ℕ) (t : Listing) → 2 ≤ k → line_step k t (bytes "EN") ≡ ends
 unfolding placed line_does split end_line

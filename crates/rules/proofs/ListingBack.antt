@@ -1,5 +1,6 @@
 -- The text of a listing of rows reads back: any listing that is sound, under `MC`, without dichotomies and without conflict, as an accepted KISS2 text gives (02,
 -- request 01), is read from its text as the listing of the same rows, each on the line where the text has it.
+use Rattle.std.specs.Prelude.{Err}
 use mathlib.Core.Path.{◌≡◌, refl, sym, ap, ap₂, ◌∙◌}
 use mathlib.Core.Bool.{Bool, true, false, not, ◌&&◌, ◌||◌, cond}
 use mathlib.Core.List.{List, [], ◌∷◌, ◌++◌, map, map-append, append_assoc, append-nil}
@@ -19,7 +20,6 @@ use Rattle.rules.specs.ListingText.{head_text, row_text, listing_lines, listing_
 use Rattle.rules.specs.declared.Head.{Head}
 use Rattle.rules.specs.declared.Row.{Row}
 use Rattle.rules.specs.declared.Listing.{Listing}
-use Rattle.rules.specs.declared.HeadLine.{HeadLine}
 use Rattle.rules.specs.declared.Reading.{Reading}
 use Rattle.rules.specs.declared.Refusal.TheVariants.{NoOutputs, Limit, Place}
 use Rattle.rules.specs.declared.Verdict.{Verdict}
@@ -133,7 +133,7 @@ unfolding flow_head read_by
 no_flow l m ms e = all_two l m ms ∙ ap (λ (b : Bool). by (same (mark_of l) (bytes "MC") && b)) e ∙ go (same (mark_of l) (bytes "MC"))
   where
     by : Bool → Reading
-    by b = read_by (cond b (head_line false l) (HeadLine.Refused Place)) l (m ∷ ms)
+    by b = read_by (cond b (head_line false l) (Err Place)) l (m ∷ ms)
 
     go : (b : Bool) → by (b && false) ≡ read_lines 1 blank (l ∷ (m ∷ ms))
     go true = refl

@@ -3,18 +3,17 @@
 use mathlib.Core.Path.{◌≡◌, refl, sym, ap, ap₂, ◌∙◌}
 use mathlib.Core.Bool.{Bool, true, false, ◌&&◌, ◌||◌, not, cond, and-false, or-false}
 use mathlib.Core.List.{List, [], ◌∷◌, ◌++◌}
-use Prim.Native.Nat.{ℕ, zero, suc, ◌+◌, ◌-◌, ◌≤◌, ◌<◌, min}
-use native.Mathlib.Decide.{ℕ_discrete, dec_lt}
+use Prim.Native.Nat.{ℕ, suc, ◌+◌, ◌-◌, ◌≤◌, ◌<◌}
+use native.Mathlib.Decide.{ℕ_discrete}
 use native.Mathlib.Omega.{arith}
 use lib.Bits.{bit_and}
 use lib.Dec.{eqb}
-use lib.ListN.{length, take, get_or, length-take}
+use lib.ListN.{length, get_or}
 use lib.Seq.{get_or-take, length-take-le}
 use borrow.Author.Tests.{eq-eqb, ne_eqb, eqb-true}
 use Rattle.sets.specs.Sets.{has, only, everyone, every}
-use Rattle.sets.proofs.Members.{has-lt, has-and, has-none, has-only, has_other, has_all, has-high}
+use Rattle.sets.proofs.Members.{has-and, has-none, has-only, has_other, has_all}
 use Rattle.sets.proofs.Every.{at_every}
-use Rattle.sets.proofs.SizeMembers.{outside-or-member}
 use Rattle.rules.specs.Limits.{most_inputs}
 use Rattle.rules.specs.Text.{digit, dash, one}
 use Rattle.rules.specs.Listing.{no_pattern, no_row, rows_of, state_row, state_rows, all_rows, some, share_input, meets}

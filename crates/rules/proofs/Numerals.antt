@@ -1,4 +1,5 @@
 -- A number that is written in decimal is read back by the rule for a field: one to four digits, no leading zero except 0 itself.
+use Rattle.std.specs.Prelude.{Some}
 use mathlib.Core.Path.{◌≡◌, refl}
 use mathlib.Core.Bool.{Bool, true, false, ◌||◌, not, or-true}
 use mathlib.Core.List.{[], ◌∷◌}
@@ -8,7 +9,6 @@ use lib.Dec.{ltb, eqb}
 use lib.ListN.{length, get_or, length-append, get_or-append}
 use borrow.Author.Tests.{ltb-true, ltb-false, le-leb, ne_eqb}
 use Rattle.rules.specs.Text.{nought, numeral_of, decimal}
-use Rattle.rules.specs.declared.Numeral.TheVariants.{Is}
 use Rattle.rules.proofs.Decimal.{decimal-low, decimal-more, decimal-length, decimal-read}
 
 -- there is a digit
@@ -41,7 +41,7 @@ no-leading v = go (ltb v 10) refl
         let o : eqb (get_or (decimal v) 0 0) nought ≡ false = ne_eqb (get_or (decimal v) 0 0) nought (λ q. omega (arith, first-digit v v (omega arith) (omega arith))) in
         rw o (or-true (eqb (length (decimal v)) 1))
 
-pub numeral-read : (v : ℕ) → v < 10000 → numeral_of (decimal v) ≡ Is v
+pub numeral-read : (v : ℕ) → v < 10000 → numeral_of (decimal v) ≡ Some v
 unfolding numeral_of
 numeral-read v h =
     rw (le-leb 1 (length (decimal v)) (some-digit v), le-leb (length (decimal v)) 4 (decimal-length 3 v h), no-leading v)

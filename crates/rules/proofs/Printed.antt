@@ -2,17 +2,16 @@
 use mathlib.Core.Path.{◌≡◌, refl, sym, ap, ap₂, ◌∙◌}
 use mathlib.Core.Bool.{Bool, true, false, ◌&&◌, ◌||◌, not}
 use mathlib.Core.List.{List, [], ◌∷◌, ◌++◌, map}
-use Prim.Native.Nat.{ℕ, zero, suc, ◌+◌, ◌≤◌, ◌<◌}
+use Prim.Native.Nat.{ℕ, zero, suc, ◌≤◌, ◌<◌}
 use native.Mathlib.Omega.{arith}
 use lib.Dec.{eqb}
 use lib.ListN.{length, take, get_or}
 use borrow.Author.Tests.{eqb-true}
-use Rattle.sets.specs.Sets.{has}
 use Rattle.sets.proofs.Every.{and_first, and_second}
 use Rattle.sets.proofs.Members.{has-none}
 use Rattle.rules.specs.Text.{nought}
 use Rattle.rules.specs.Listing.{no_row, some}
-use Rattle.rules.specs.Cover.{next_code, says_one, says_dash, shares_one, output_at, zeros, says_nothing, is_left_out, printed_rows}
+use Rattle.rules.specs.Cover.{next_code, output_at, zeros, says_nothing, is_left_out, printed_rows}
 use Rattle.rules.specs.declared.Head.{Head}
 use Rattle.rules.specs.declared.Row.{Row}
 

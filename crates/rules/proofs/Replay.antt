@@ -1,9 +1,10 @@
 -- 02, request 08: the code that the cover gave is always the code of the state that the symbolic machine is in, and the cover agrees with the outputs shown.
+use Rattle.std.specs.Prelude.{Result, Option, Ok, Err, Some, None}
 use mathlib.Core.Path.{◌≡◌, refl, sym, ap, ap₂, subst, ◌∙◌}
 use mathlib.Core.Logic.{◌⊎◌, inl, inr}
 use mathlib.Core.Bool.{Bool, true, false, ◌&&◌, not, cond}
 use mathlib.Core.List.{List, [], ◌∷◌, ◌++◌, map}
-use Prim.Native.Nat.{ℕ, zero, suc, ◌+◌, ◌^◌, ◌<◌}
+use Prim.Native.Nat.{ℕ, suc, ◌+◌, ◌<◌}
 use native.Mathlib.Nat.{zero-add}
 use native.Mathlib.Decide.{ℕ_discrete}
 use native.Mathlib.Omega.{arith}
@@ -11,9 +12,9 @@ use lib.Bits.{bit_and}
 use lib.Dec.{eqb, ltb}
 use lib.Pow.{pow-lt, pow_pos}
 use lib.ListN.{length, get_or, length-map}
-use borrow.Author.Tests.{eqb-true, ne_eqb, ltb-true}
-use Rattle.sets.specs.Sets.{has, only, every, states_from}
-use Rattle.sets.proofs.Every.{and_first, and_second, every-at}
+use borrow.Author.Tests.{ltb-true}
+use Rattle.sets.specs.Sets.{has, only, states_from}
+use Rattle.sets.proofs.Every.{and_first, every-at}
 use Rattle.sets.proofs.Members.{has_other}
 use Rattle.sets.proofs.LowestMember.{lowest-has}
 use Rattle.sets.proofs.SizeMembers.{at_most_one}
@@ -29,21 +30,17 @@ use Rattle.rules.specs.Replay.{marked, start_read, start_line, vector_line, stat
 use Rattle.rules.specs.declared.Head.{Head}
 use Rattle.rules.specs.declared.Row.{Row}
 use Rattle.rules.specs.declared.Listing.{Listing}
-use Rattle.rules.specs.declared.Numeral.{Numeral}
-use Rattle.rules.specs.declared.Numeral.TheVariants.{Is, Bad}
 use Rattle.rules.specs.declared.Reading.{Reading}
 use Rattle.rules.specs.declared.Verdict.{Verdict}
 use Rattle.rules.specs.declared.Refusal.{Refusal}
 use Rattle.rules.specs.declared.Refusal.TheVariants.{BadLine, NoNext}
-use Rattle.rules.specs.declared.StartLine.{StartLine}
 use Rattle.rules.specs.declared.StateNumber.{StateNumber}
-use Rattle.rules.specs.declared.VectorLine.{VectorLine}
-use Rattle.rules.proofs.Ways.{chose-first}
+use Rattle.rules.proofs.Ways.{chose-first, not-ok}
 use Rattle.rules.proofs.Fires.{part-has}
 use Rattle.rules.proofs.SoundLines.{FitRow}
 use Rattle.rules.proofs.Sound.{Sound, accepted-sound}
 use Rattle.rules.proofs.AllRows.{all_fit}
-use Rattle.rules.proofs.Written.{CoverOf, Written, says_same, says-not, written}
+use Rattle.rules.proofs.Written.{Written, says_same, says-not, written}
 
 -- ---- what is promised of the steps
 
@@ -160,19 +157,16 @@ code-after t bits ls x s u agree some named =
 -- ---- the run
 
 -- the state that `SS` names is below n
-pub start-below : (h : Head) (l : List ℕ) {s : StateNumber} → start_line h l ≡ StartLine.Read s → s.0 < h.states
+pub start-below : (h : Head) (l : List ℕ) {s : StateNumber} → start_line h l ≡ Ok s → s.0 < h.states
 unfolding start_line start_read
-start-below h l {s} e = number (numeral_of (field_at l 1)) (chose-first (marked (bytes "SS") l) e (refused-not BadLine)).1
+start-below h l {s} e = number (numeral_of (field_at l 1)) (chose-first (marked (bytes "SS") l) e not-ok).1
   where
-    refused-not : (r : Refusal) → StartLine.Refused r ≡ StartLine.Read s → ⊥
-    refused-not r e = let z : ◌≡◌ {A = ℕ} 0 1 = cc in omega arith
-
-    number : (v : Numeral) → start_read h v ≡ StartLine.Read s → s.0 < h.states
-    number (Is n) e =
-        let k = chose-first (ltb n h.states) e (refused-not BadLine) in
-        let same : n ≡ s.0 = ap (λ (q : StartLine). elim q [ StartLine.Read m ↦ m.0 | StartLine.Refused r ↦ n ]) k.1 in
+    number : (v : Option ℕ) → start_read h v ≡ Ok s → s.0 < h.states
+    number (Some n) e =
+        let k = chose-first (ltb n h.states) e not-ok in
+        let same : n ≡ s.0 = ap (λ (q : Result StateNumber Refusal). elim q [ Ok m ↦ m.0 | Err r ↦ n ]) k.1 in
         omega (arith, ltb-true n h.states k.0, same)
-    number Bad e = absurd (refused-not BadLine e)
+    number None e = absurd (not-ok e)
 
 module _ (t : Listing) (bits : List ℕ) (ls : List (List ℕ)) (sound : Sound t) (agree : (x s : ℕ) → s < t.head.states → agrees_at t bits ls x s ≡ true) where
   one-step : (x s : ℕ) → s < t.head.states → eqb (next_means t x s) 0 ≡ false → StepFrom t bits ls s (shown t ls x s (code_of bits s))
@@ -196,16 +190,16 @@ module _ (t : Listing) (bits : List ℕ) (ls : List (List ℕ)) (sound : Sound t
   run-steps done s l ((x ∷ xs) ∷ []) = tt
   run-steps done s l (line ∷ (m ∷ ms)) = go (vector_line t.head done line) (λ u h. run-steps (done + 1) u h (m ∷ ms))
     where
-      go : (v : VectorLine) → ((u : ℕ) → u < t.head.states → Steps t bits ls u (run_from t ls (done + 1) u (code_of bits u) (m ∷ ms))) → Steps t bits ls s
+      go : (v : Result ℕ Refusal) → ((u : ℕ) → u < t.head.states → Steps t bits ls u (run_from t ls (done + 1) u (code_of bits u) (m ∷ ms))) → Steps t bits ls s
           (elim v [
-            | VectorLine.Refused r ↦ stopped r (done + 2)
-            | VectorLine.Read x ↦ elim (eqb (next_means t x s) 0) [
+            | Err r ↦ stopped r (done + 2)
+            | Ok x ↦ elim (eqb (next_means t x s) 0) [
               | true ↦ stopped NoNext (done + 2)
               | false ↦ steps (shown t ls x s (code_of bits s)) (run_from t ls (done + 1) (state_after t x s) (code_after ls t.head x (code_of bits s)) (m ∷ ms))
             ]
           ])
-      go (VectorLine.Refused r) later = tt
-      go (VectorLine.Read x) later = named (eqb (next_means t x s) 0) refl
+      go (Err r) later = tt
+      go (Ok x) later = named (eqb (next_means t x s) 0) refl
         where
           named : (b : Bool) → eqb (next_means t x s) 0 ≡ b → Steps t bits ls s
               (elim b [
@@ -223,10 +217,10 @@ module _ (t : Listing) (bits : List ℕ) (ls : List (List ℕ)) (sound : Sound t
   run-whole (l ∷ []) = inl (BadLine, refl)
   run-whole (l ∷ (m ∷ ms)) = go (start_line t.head l) refl
     where
-      go : (v : StartLine) → start_line t.head l ≡ v
-          → Whole t bits ls (elim v [ StartLine.Refused r ↦ stopped r 1 | StartLine.Read s ↦ run_from t ls 0 s.0 (code_of bits s.0) (m ∷ ms) ])
-      go (StartLine.Refused r) e = inl (r, refl)
-      go (StartLine.Read s) e = inr (s.0, start-below t.head l e, run-steps 0 s.0 (start-below t.head l e) (m ∷ ms))
+      go : (v : Result StateNumber Refusal) → start_line t.head l ≡ v
+          → Whole t bits ls (elim v [ Err r ↦ stopped r 1 | Ok s ↦ run_from t ls 0 s.0 (code_of bits s.0) (m ∷ ms) ])
+      go (Err r) e = inl (r, refl)
+      go (Ok s) e = inr (s.0, start-below t.head l e, run-steps 0 s.0 (start-below t.head l e) (m ∷ ms))
 
 -- ---- the reply
 

@@ -1,5 +1,6 @@
 -- The lines of a report's text are ended lines, so a line stands in the text exactly where it is one of them; and so are a refusal's line and those of
 -- what each width buys.
+use Rattle.std.specs.Prelude.{Option, Some, None}
 use mathlib.Core.Path.{◌≡◌}
 use mathlib.Core.Logic.{◌↔◌}
 use mathlib.Core.Bool.{Bool}
@@ -22,8 +23,6 @@ use Rattle.rules.specs.declared.Requirement.{Requirement}
 use Rattle.rules.specs.declared.StateNumber.{StateNumber}
 use Rattle.rules.specs.declared.RequirementNumber.{RequirementNumber}
 use Rattle.rules.specs.declared.BitNumber.{BitNumber}
-use Rattle.rules.specs.declared.Judgement.{Judgement}
-use Rattle.rules.specs.declared.Judgement.TheVariants.{By, ByNone}
 use Rattle.rules.proofs.Fields.{Without, none, more, without-map}
 use Rattle.rules.proofs.Ended.{Ended, last, then, ended-behind, AllEnded, no_line, line, ended-append, ended-map, HasLine, of-text, in-text, digits-ended, space-then, mark-then}
 
@@ -59,10 +58,10 @@ unfolding met_lines
 mets-ended k n bits [] = no_line
 mets-ended k n bits (r ∷ rs) = go (judgement n bits r) (mets-ended (suc k) n bits rs)
   where
-    go : (j : Judgement) → AllEnded (met_lines (suc k) n bits rs)
-        → AllEnded (elim j [ By b ↦ met_line (record { 0 = k }) b ∷ met_lines (suc k) n bits rs | ByNone ↦ met_lines (suc k) n bits rs ])
-    go (By b) a = line (met-ended (record { 0 = k }) b) a
-    go ByNone a = a
+    go : (j : Option BitNumber) → AllEnded (met_lines (suc k) n bits rs)
+        → AllEnded (elim j [ Some b ↦ met_line (record { 0 = k }) b ∷ met_lines (suc k) n bits rs | None ↦ met_lines (suc k) n bits rs ])
+    go (Some b) a = line (met-ended (record { 0 = k }) b) a
+    go None a = a
 
 pub end-ended : Ended (bytes "EN\n")
 end-ended = then {x = 69} (λ e. omega arith) (then {x = 78} (λ e. omega arith) last)

@@ -1,4 +1,5 @@
 -- The report that is written: each requirement has there its `BY` line, with the first bit that meets it, or its `UN` line, and never both.
+use Rattle.std.specs.Prelude.{Option, Some, None}
 use mathlib.Core.Path.{◌≡◌, refl, sym, ap, subst, ◌∙◌}
 use mathlib.Core.Logic.{◌↔◌, ◌⊎◌, inl, inr, ⊎_elim}
 use mathlib.Core.Bool.{true≢false}
@@ -20,8 +21,6 @@ use Rattle.rules.specs.declared.Reading.{Reading}
 use Rattle.rules.specs.declared.Verdict.{Verdict}
 use Rattle.rules.specs.declared.Requirement.{Requirement}
 use Rattle.rules.specs.declared.BitNumber.{BitNumber}
-use Rattle.rules.specs.declared.Judgement.{Judgement}
-use Rattle.rules.specs.declared.Judgement.TheVariants.{By, ByNone}
 use Rattle.rules.proofs.Fields.{none, more, without-append, split-last, split-part}
 use Rattle.rules.proofs.Decimal.{decimal-without, decimal-same}
 use Rattle.rules.proofs.Judged.{FirstMeets, MetByNone, first_or_none, by-judged, judged-by}
@@ -131,14 +130,14 @@ end-letter = refl
 
 -- r is the number of a requirement that the bit k is the first to meet
 abbrev ByBit : ℕ → ℕ → List ℕ → List Requirement → ℕ → ℕ → Type 0
-ByBit m n bits rs r k = (d : ℕ) × (r ≡ m + d) × (d < length rs) × (judgement n bits (get_or rs d no_requirement) ≡ By (record { 0 = k }))
+ByBit m n bits rs r k = (d : ℕ) × (r ≡ m + d) × (d < length rs) × (judgement n bits (get_or rs d no_requirement) ≡ Some (record { 0 = k }))
 
 module _ (m n : ℕ) (bits : List ℕ) (q : Requirement) (rs : List Requirement) where
-  pub lines-by : (b : BitNumber) → judgement n bits q ≡ By b → met_lines m n bits (q ∷ rs) ≡ met_line (record { 0 = m }) b ∷ met_lines (suc m) n bits rs
+  pub lines-by : (b : BitNumber) → judgement n bits q ≡ Some b → met_lines m n bits (q ∷ rs) ≡ met_line (record { 0 = m }) b ∷ met_lines (suc m) n bits rs
   unfolding met_lines
   lines-by b e = rw (e, met_lines)
 
-  pub lines_none : judgement n bits q ≡ ByNone → met_lines m n bits (q ∷ rs) ≡ met_lines (suc m) n bits rs
+  pub lines_none : judgement n bits q ≡ None → met_lines m n bits (q ∷ rs) ≡ met_lines (suc m) n bits rs
   unfolding met_lines
   lines_none e = rw (e, met_lines)
 
@@ -150,23 +149,23 @@ of-lines m n bits (q ∷ rs) r k h = go (judgement n bits q) refl (λ x. later (
     later : ByBit (suc m) n bits rs r k → ByBit m n bits (q ∷ rs) r k
     later l = (suc l.0, omega (arith, l.1), omega (arith, l.2), l.3)
 
-    go : (j : Judgement) → judgement n bits q ≡ j → (Memᴰ (by_text r k) (met_lines (suc m) n bits rs) → ByBit m n bits (q ∷ rs) r k) → ByBit m n bits (q ∷ rs) r k
-    go (By b) e f =
+    go : (j : Option BitNumber) → judgement n bits q ≡ j → (Memᴰ (by_text r k) (met_lines (suc m) n bits rs) → ByBit m n bits (q ∷ rs) r k) → ByBit m n bits (q ∷ rs) r k
+    go (Some b) e f =
         ⊎_elim
-        (λ x. let z = by-same r k m b.0 x in (0, omega (arith, z.0), omega arith, e ∙ ap (λ (i : ℕ). By (record { 0 = i })) (sym z.1)))
+        (λ x. let z = by-same r k m b.0 x in (0, omega (arith, z.0), omega arith, e ∙ ap (λ (i : ℕ). Some (record { 0 = i })) (sym z.1)))
         f
         (Memᴰ.cases_cons (rw (lines-by m n bits q rs b e) at h))
-    go ByNone e f = f (rw (lines_none m n bits q rs e) at h)
+    go None e f = f (rw (lines_none m n bits q rs e) at h)
 
-in_lines : (m n : ℕ) (bits : List ℕ) (rs : List Requirement) (d k : ℕ) → d < length rs → judgement n bits (get_or rs d no_requirement) ≡ By (record { 0 = k })
+in_lines : (m n : ℕ) (bits : List ℕ) (rs : List Requirement) (d k : ℕ) → d < length rs → judgement n bits (get_or rs d no_requirement) ≡ Some (record { 0 = k })
     → Memᴰ (by_text (m + d) k) (met_lines m n bits rs)
 in_lines m n bits [] d k h e = absurd (omega arith)
 in_lines m n bits (q ∷ rs) zero k h e = rw (lines-by m n bits q rs (record { 0 = k }) e) (Memᴰ.head (ap (λ (i : ℕ). by_text i k) (add-zero m)))
 in_lines m n bits (q ∷ rs) (suc d) k h e = go (judgement n bits q) refl (Memᴰ.cast (ap (λ (i : ℕ). by_text i k) (omega arith)) (in_lines (suc m) n bits rs d k (omega arith) e))
   where
-    go : (j : Judgement) → judgement n bits q ≡ j → Memᴰ (by_text (m + suc d) k) (met_lines (suc m) n bits rs) → Memᴰ (by_text (m + suc d) k) (met_lines m n bits (q ∷ rs))
-    go (By b) x f = rw (lines-by m n bits q rs b x) (Memᴰ.tail f)
-    go ByNone x f = rw (lines_none m n bits q rs x) f
+    go : (j : Option BitNumber) → judgement n bits q ≡ j → Memᴰ (by_text (m + suc d) k) (met_lines (suc m) n bits rs) → Memᴰ (by_text (m + suc d) k) (met_lines m n bits (q ∷ rs))
+    go (Some b) x f = rw (lines-by m n bits q rs b x) (Memᴰ.tail f)
+    go None x f = rw (lines_none m n bits q rs x) f
 
 -- a `BY` line begins otherwise than an `UN` line
 met-letter : (m n : ℕ) (bits : List ℕ) (rs : List Requirement) (r : ℕ) → Memᴰ (un_text r) (met_lines m n bits rs) → ⊥
@@ -174,13 +173,13 @@ unfolding met_lines
 met-letter m n bits [] r h = Memᴰ.not-nil h
 met-letter m n bits (q ∷ rs) r h = go (judgement n bits q) refl (met-letter (suc m) n bits rs r)
   where
-    go : (j : Judgement) → judgement n bits q ≡ j → (Memᴰ (un_text r) (met_lines (suc m) n bits rs) → ⊥) → ⊥
-    go (By b) e f =
+    go : (j : Option BitNumber) → judgement n bits q ≡ j → (Memᴰ (un_text r) (met_lines (suc m) n bits rs) → ⊥) → ⊥
+    go (Some b) e f =
         ⊎_elim
         (λ x. other (un_text r) (by_text m b.0) (λ z. omega (arith, z, un-letter r, by-letter m b.0)) x)
         f
         (Memᴰ.cases_cons (rw (lines-by m n bits q rs b e) at h))
-    go ByNone e f = f (rw (lines_none m n bits q rs e) at h)
+    go None e f = f (rw (lines_none m n bits q rs e) at h)
 
 -- ---- a line of the report
 

@@ -1,6 +1,8 @@
 -- What an accepted listing grants: numbers within 01's limits, every row, dichotomy and state's outputs within the head's numbers, and outputs for each state of a
 -- Moore machine.
-use mathlib.Core.Path.{◌≡◌, refl, sym, ap, subst, ◌∙◌}
+use Rattle.rules.specs.declared.StateOutputs.{StateOutputs}
+use Rattle.std.specs.Prelude.{Result, Ok, Err}
+use mathlib.Core.Path.{◌≡◌, refl, ap, subst, ◌∙◌}
 use mathlib.Core.Bool.{Bool, true, false, ◌&&◌, cond, false≢true}
 use mathlib.Core.List.Memᴰ
 use mathlib.Core.List.{List, [], ◌∷◌, map, Memᴰ}
@@ -31,11 +33,6 @@ use Rattle.rules.specs.declared.Mark.TheVariants.{Mc, Mo, Pt, Di, Ou, Ft, En, Un
 use Rattle.rules.specs.declared.Refusal.{Refusal}
 use Rattle.rules.specs.declared.Refusal.TheVariants.{BadLine, Limit, Place, NoOutputs}
 use Rattle.rules.specs.declared.Verdict.{Verdict}
-use Rattle.rules.specs.declared.HeadLine.{HeadLine}
-use Rattle.rules.specs.declared.RowLine.{RowLine}
-use Rattle.rules.specs.declared.DichotomyLine.{DichotomyLine}
-use Rattle.rules.specs.declared.OutputsLine.{OutputsLine}
-use Rattle.rules.specs.declared.EndLine.{EndLine}
 use Rattle.rules.specs.declared.Reading.{Reading}
 use Rattle.rules.proofs.SoundLines.{SoundHead, SoundPattern, SoundRow, SoundBlocks, no-pattern, head-sound, head-kind, ReadRow, row_read, dichotomy-sound, outputs-sound}
 use Rattle.rules.proofs.FlowSets.{table-sound}
@@ -161,9 +158,9 @@ step-ends k t l e = chose-first (placed (mark_is (mark_of l)) k t.head t.given l
 head-on : (m : Bool) (l : List ℕ) (u : Listing) → on_head (head_line m l) blank ≡ goes u → Sound u
 head-on m l u e = on (head_line m l) refl e
   where
-    on : (x : HeadLine) → head_line m l ≡ x → on_head x blank ≡ goes u → Sound u
-    on (HeadLine.Read h) q e = subst Sound (goes_same _ _ e) (with-head h (head-sound m l h q))
-    on (HeadLine.Refused f) q e = absurd (stops-not f u e)
+    on : (x : Result Head Refusal) → head_line m l ≡ x → on_head x blank ≡ goes u → Sound u
+    on (Ok h) q e = subst Sound (goes_same _ _ e) (with-head h (head-sound m l h q))
+    on (Err f) q e = absurd (stops-not f u e)
 
 first-sound : (m : Mark) (h : Head) (given : ℕ) (l : List ℕ) (u : Listing) → placed m 1 h given l ≡ true → line_does m 1 blank l ≡ goes u → Sound u
 unfolding placed line_does
@@ -181,14 +178,14 @@ first-goes-on : (m : Mark) (h : Head) (given : ℕ) (l : List ℕ) → placed m 
 unfolding placed line_does
 first-goes-on Mc h given l p e = on (head_line false l) e
   where
-    on : (x : HeadLine) → on_head x blank ≡ ends → ⊥
-    on (HeadLine.Read h) e = let z : ◌≡◌ {A = ℕ} 0 1 = cc in omega arith
-    on (HeadLine.Refused f) e = let z : ◌≡◌ {A = ℕ} 0 1 = cc in omega arith
+    on : (x : Result Head Refusal) → on_head x blank ≡ ends → ⊥
+    on (Ok h) e = let z : ◌≡◌ {A = ℕ} 0 1 = cc in omega arith
+    on (Err f) e = let z : ◌≡◌ {A = ℕ} 0 1 = cc in omega arith
 first-goes-on Mo h given l p e = on (head_line true l) e
   where
-    on : (x : HeadLine) → on_head x blank ≡ ends → ⊥
-    on (HeadLine.Read h) e = let z : ◌≡◌ {A = ℕ} 0 1 = cc in omega arith
-    on (HeadLine.Refused f) e = let z : ◌≡◌ {A = ℕ} 0 1 = cc in omega arith
+    on : (x : Result Head Refusal) → on_head x blank ≡ ends → ⊥
+    on (Ok h) e = let z : ◌≡◌ {A = ℕ} 0 1 = cc in omega arith
+    on (Err f) e = let z : ◌≡◌ {A = ℕ} 0 1 = cc in omega arith
 first-goes-on Pt h given l p e = absurd (false≢true p)
 first-goes-on Di h given l p e = absurd (false≢true p)
 first-goes-on Ou h given l p e = absurd (false≢true p)
@@ -202,25 +199,25 @@ later-sound Mc k t l u h s p e = absurd (omega (arith, eqb-true k 1 p))
 later-sound Mo k t l u h s p e = absurd (omega (arith, eqb-true k 1 p))
 later-sound Pt k t l u h s p e = on (row_line t.head t.rows k l) refl e
   where
-    on : (x : RowLine) → row_line t.head t.rows k l ≡ x → on_row x t ≡ goes u → Sound u
-    on (RowLine.Read r) q e = subst Sound (goes_same _ _ e) (with-row t k r s (row_read t.head t.rows k l r q))
-    on (RowLine.Refused f) q e = absurd (stops-not f u e)
+    on : (x : Result Row Refusal) → row_line t.head t.rows k l ≡ x → on_row x t ≡ goes u → Sound u
+    on (Ok r) q e = subst Sound (goes_same _ _ e) (with-row t k r s (row_read t.head t.rows k l r q))
+    on (Err f) q e = absurd (stops-not f u e)
 later-sound Di k t l u h s p e = on (dichotomy_line t.head t.dichotomies l) refl e
   where
-    on : (x : DichotomyLine) → dichotomy_line t.head t.dichotomies l ≡ x → on_dichotomy x t ≡ goes u → Sound u
-    on (DichotomyLine.Read d) q e = subst Sound (goes_same _ _ e) (with-dichotomy t d s (dichotomy-sound t.head t.dichotomies l d q))
-    on (DichotomyLine.Refused f) q e = absurd (stops-not f u e)
+    on : (x : Result Requirement Refusal) → dichotomy_line t.head t.dichotomies l ≡ x → on_dichotomy x t ≡ goes u → Sound u
+    on (Ok d) q e = subst Sound (goes_same _ _ e) (with-dichotomy t d s (dichotomy-sound t.head t.dichotomies l d q))
+    on (Err f) q e = absurd (stops-not f u e)
 later-sound Ou k t l u h s p e = on (outputs_line t.head l) refl e
   where
-    on : (x : OutputsLine) → outputs_line t.head l ≡ x → on_outputs x t ≡ goes u → Sound u
-    on (OutputsLine.Read n p) q e = subst Sound (goes_same _ _ e) (with-outputs t n.0 p s (outputs-sound t.head l n p q))
-    on (OutputsLine.Refused f) q e = absurd (stops-not f u e)
+    on : (x : Result StateOutputs Refusal) → outputs_line t.head l ≡ x → on_outputs x t ≡ goes u → Sound u
+    on (Ok o) q e = subst Sound (goes_same _ _ e) (with-outputs t o.state.0 o.outputs s (outputs-sound t.head l o q))
+    on (Err f) q e = absurd (stops-not f u e)
 later-sound Ft k t l u h s p e = absurd (false≢true p)
 later-sound En k t l u h s p e = on (end_line l) e
   where
-    on : (x : EndLine) → on_end x ≡ goes u → Sound u
-    on EndLine.Read e = absurd (let z : ◌≡◌ {A = ℕ} 0 1 = cc in omega arith)
-    on (EndLine.Refused f) e = absurd (stops-not f u e)
+    on : (x : Result Unit Refusal) → on_end x ≡ goes u → Sound u
+    on (Ok tt) e = absurd (let z : ◌≡◌ {A = ℕ} 0 1 = cc in omega arith)
+    on (Err f) e = absurd (stops-not f u e)
 later-sound Unknown k t l u h s p e = absurd (stops-not BadLine u e)
 
 -- ---- the whole
@@ -304,7 +301,7 @@ unfolding complete
 mealy-complete h given e = rw e
 
 -- the head of a flow table
-pub flow-head : (l m : List ℕ) (h : Head) → flow_head l m ≡ HeadLine.Read h → head_line false l ≡ HeadLine.Read h
+pub flow-head : (l m : List ℕ) (h : Head) → flow_head l m ≡ Ok h → head_line false l ≡ Ok h
 unfolding flow_head
 flow-head l m h e = (chose-first (same (mark_of l) (bytes "MC") && same (mark_of m) (bytes "FT")) e (λ q. let z : ◌≡◌ {A = ℕ} 0 1 = cc in omega arith)).1
 
@@ -379,8 +376,8 @@ flow-good k h all (l ∷ (m ∷ ms)) s e = rw (flow-on k h all l m ms) (go (flow
     go (flow_stops r) g = refused-good r k
 
 -- all lines, of either kind
-unfoldable pub read_by : HeadLine → List ℕ → List (List ℕ) → Reading
-read_by x l rest = elim x [ HeadLine.Read h ↦ flow_lines 2 h rest rest | HeadLine.Refused r ↦ read_lines 1 blank (l ∷ rest) ]
+unfoldable pub read_by : Result Head Refusal → List ℕ → List (List ℕ) → Reading
+read_by x l rest = elim x [ Ok h ↦ flow_lines 2 h rest rest | Err r ↦ read_lines 1 blank (l ∷ rest) ]
 
 pub all_two : (l m : List ℕ) (ms : List (List ℕ)) → read_all (l ∷ (m ∷ ms)) ≡ read_by (flow_head l m) l (m ∷ ms)
 unfolding read_all read_by
@@ -400,9 +397,9 @@ all-good [] = rw all_none (first_good [])
 all-good (l ∷ []) = rw (all_one l) (first_good (l ∷ []))
 all-good (l ∷ (m ∷ ms)) = rw (all_two l m ms) (go (flow_head l m) refl)
   where
-    go : (x : HeadLine) → flow_head l m ≡ x → Good (read_by x l (m ∷ ms))
-    go (HeadLine.Read h) e = let q = flow-head l m h e in flow-good 2 h (m ∷ ms) (m ∷ ms) (head-sound false l h q) (head-kind false l h q)
-    go (HeadLine.Refused r) e = first_good (l ∷ (m ∷ ms))
+    go : (x : Result Head Refusal) → flow_head l m ≡ x → Good (read_by x l (m ∷ ms))
+    go (Ok h) e = let q = flow-head l m h e in flow-good 2 h (m ∷ ms) (m ∷ ms) (head-sound false l h q) (head-kind false l h q)
+    go (Err r) e = first_good (l ∷ (m ∷ ms))
 
 -- ---- judged by its rows
 

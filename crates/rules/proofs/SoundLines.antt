@@ -1,4 +1,6 @@
 -- What a line that is read says: a head within 01's limits, and a row, a dichotomy or a state's outputs within the head's numbers.
+use Rattle.rules.specs.declared.StateOutputs.{StateOutputs}
+use Rattle.std.specs.Prelude.{Result, Option, Ok, Err, Some, None}
 use mathlib.Core.Path.{◌≡◌, refl, sym, ap, subst, ◌∙◌}
 use mathlib.Core.Bool.{Bool, true, false, ◌&&◌, cond, false≢true}
 use mathlib.Core.List.{List, []}
@@ -15,20 +17,13 @@ use Rattle.rules.specs.Limits.{most_states, most_inputs, most_outputs, most_bits
 use Rattle.rules.specs.Text.{nought, one, dash, plus, dot, fields_of, field_at, sized, set_of, numeral_of}
 use Rattle.rules.specs.Lines.{head_numbers, head_numerals, fifth_of, head_line, row_fits, outputs_fit, row_of, row_checked, mealy_line, moore_line, row_line, dichotomy_line, outputs_read, outputs_line}
 use Rattle.rules.specs.Listing.{no_pattern}
-use Rattle.rules.specs.declared.StateNumber.{StateNumber}
 use Rattle.rules.specs.declared.Head.{Head}
 use Rattle.rules.specs.declared.Pattern.{Pattern}
 use Rattle.rules.specs.declared.Row.{Row}
 use Rattle.rules.specs.declared.Requirement.{Requirement}
-use Rattle.rules.specs.declared.Numeral.{Numeral}
-use Rattle.rules.specs.declared.Numeral.TheVariants.{Is, Bad}
 use Rattle.rules.specs.declared.Refusal.{Refusal}
-use Rattle.rules.specs.declared.Refusal.TheVariants.{BadLine, Limit, EmptyGroup, NextState}
-use Rattle.rules.specs.declared.HeadLine.{HeadLine}
-use Rattle.rules.specs.declared.RowLine.{RowLine}
-use Rattle.rules.specs.declared.DichotomyLine.{DichotomyLine}
-use Rattle.rules.specs.declared.OutputsLine.{OutputsLine}
-use Rattle.rules.proofs.Ways.{chose-first, chose-second}
+use Rattle.rules.specs.declared.Refusal.TheVariants.{BadLine}
+use Rattle.rules.proofs.Ways.{chose-first, chose-second, same-ok, not-ok}
 use Rattle.rules.proofs.Characters.{set_apart, sized_set}
 
 pub record SoundHead (h : Head) : Type 0 where
@@ -73,23 +68,17 @@ pub record SoundBlocks (n : ℕ) (d : Requirement) : Type 0 where
 
 -- ---- the head line
 
-head-same : (a b : Head) → HeadLine.Read a ≡ HeadLine.Read b → a ≡ b
-head-same a b e = cc
-
-head-not : (f : Refusal) (h : Head) → HeadLine.Refused f ≡ HeadLine.Read h → ⊥
-head-not f h e = let z : ◌≡◌ {A = ℕ} 0 1 = cc in omega arith
-
-head-numbers : (m : Bool) (n i o w k : ℕ) (h : Head) → head_numbers m n i o w k ≡ HeadLine.Read h → SoundHead h
+head-numbers : (m : Bool) (n i o w k : ℕ) (h : Head) → head_numbers m n i o w k ≡ Ok h → SoundHead h
 unfolding head_numbers
 head-numbers m n i o w k h e =
     let ns = leb 1 n && leb n most_states in
     let is = leb 1 i && leb i most_inputs in
     let os = leb 1 o && leb o most_outputs in
-    let c = chose-first (ns && is && os && leb w most_bits && leb k 1) e (head-not Limit h) in
+    let c = chose-first (ns && is && os && leb w most_bits && leb k 1) e not-ok in
     let e₄ = and_first (ns && is && os && leb w most_bits) (leb k 1) c.0 in
     let e₃ = and_first (ns && is && os) (leb w most_bits) e₄ in
     let e₂ = and_first (ns && is) os e₃ in
-    let same : record { states = n; inputs = i; outputs = o; width = w; keeps = eqb k 1; moore = m } ≡ h = head-same _ _ c.1 in
+    let same : record { states = n; inputs = i; outputs = o; width = w; keeps = eqb k 1; moore = m } ≡ h = same-ok c.1 in
     subst SoundHead same record {
       some-states = leb-true 1 n (and_first (leb 1 n) (leb n most_states) (and_first ns is e₂));
       few-states = leb-true n most_states (and_second (leb 1 n) (leb n most_states) (and_first ns is e₂));
@@ -100,58 +89,52 @@ head-numbers m n i o w k h e =
       few_bits = leb-true w most_bits (and_second (ns && is && os) (leb w most_bits) e₄);
     }
 
-head-numerals : (m : Bool) (n i o w k : Numeral) (h : Head) → head_numerals m n i o w k ≡ HeadLine.Read h → SoundHead h
+head-numerals : (m : Bool) (n i o w k : Option ℕ) (h : Head) → head_numerals m n i o w k ≡ Ok h → SoundHead h
 unfolding head_numerals
-head-numerals m (Is n) (Is i) (Is o) (Is w) (Is k) h e = head-numbers m n i o w k h e
-head-numerals m (Is n) (Is i) (Is o) (Is w) Bad h e = absurd (head-not BadLine h e)
-head-numerals m (Is n) (Is i) (Is o) Bad k h e = absurd (head-not BadLine h e)
-head-numerals m (Is n) (Is i) Bad w k h e = absurd (head-not BadLine h e)
-head-numerals m (Is n) Bad o w k h e = absurd (head-not BadLine h e)
-head-numerals m Bad i o w k h e = absurd (head-not BadLine h e)
+head-numerals m (Some n) (Some i) (Some o) (Some w) (Some k) h e = head-numbers m n i o w k h e
+head-numerals m (Some n) (Some i) (Some o) (Some w) None h e = absurd (not-ok e)
+head-numerals m (Some n) (Some i) (Some o) None k h e = absurd (not-ok e)
+head-numerals m (Some n) (Some i) None w k h e = absurd (not-ok e)
+head-numerals m (Some n) None o w k h e = absurd (not-ok e)
+head-numerals m None i o w k h e = absurd (not-ok e)
 
-pub head-sound : (m : Bool) (l : List ℕ) (h : Head) → head_line m l ≡ HeadLine.Read h → SoundHead h
+pub head-sound : (m : Bool) (l : List ℕ) (h : Head) → head_line m l ≡ Ok h → SoundHead h
 unfolding head_line
 head-sound m l h e =
     head-numerals m (numeral_of (field_at l 1)) (numeral_of (field_at l 2)) (numeral_of (field_at l 3)) (numeral_of (field_at l 4)) (fifth_of l) h
-    (chose-first (leb 5 (length (fields_of l)) && leb (length (fields_of l)) 6) e (head-not BadLine h)).1
+    (chose-first (leb 5 (length (fields_of l)) && leb (length (fields_of l)) 6) e not-ok).1
 
 -- it is `MO` that makes a Moore machine
-numbers-kind : (m : Bool) (n i o w k : ℕ) (h : Head) → head_numbers m n i o w k ≡ HeadLine.Read h → h.moore ≡ m
+numbers-kind : (m : Bool) (n i o w k : ℕ) (h : Head) → head_numbers m n i o w k ≡ Ok h → h.moore ≡ m
 unfolding head_numbers
 numbers-kind m n i o w k h e =
-    let c = chose-first (leb 1 n && leb n most_states && (leb 1 i && leb i most_inputs) && (leb 1 o && leb o most_outputs) && leb w most_bits && leb k 1) e (head-not Limit h) in
-    ap (λ (h : Head). h.moore) (sym (head-same _ _ c.1))
+    let c = chose-first (leb 1 n && leb n most_states && (leb 1 i && leb i most_inputs) && (leb 1 o && leb o most_outputs) && leb w most_bits && leb k 1) e not-ok in
+    ap (λ (h : Head). h.moore) (sym (same-ok c.1))
 
-numerals-kind : (m : Bool) (n i o w k : Numeral) (h : Head) → head_numerals m n i o w k ≡ HeadLine.Read h → h.moore ≡ m
+numerals-kind : (m : Bool) (n i o w k : Option ℕ) (h : Head) → head_numerals m n i o w k ≡ Ok h → h.moore ≡ m
 unfolding head_numerals
-numerals-kind m (Is n) (Is i) (Is o) (Is w) (Is k) h e = numbers-kind m n i o w k h e
-numerals-kind m (Is n) (Is i) (Is o) (Is w) Bad h e = absurd (head-not BadLine h e)
-numerals-kind m (Is n) (Is i) (Is o) Bad k h e = absurd (head-not BadLine h e)
-numerals-kind m (Is n) (Is i) Bad w k h e = absurd (head-not BadLine h e)
-numerals-kind m (Is n) Bad o w k h e = absurd (head-not BadLine h e)
-numerals-kind m Bad i o w k h e = absurd (head-not BadLine h e)
+numerals-kind m (Some n) (Some i) (Some o) (Some w) (Some k) h e = numbers-kind m n i o w k h e
+numerals-kind m (Some n) (Some i) (Some o) (Some w) None h e = absurd (not-ok e)
+numerals-kind m (Some n) (Some i) (Some o) None k h e = absurd (not-ok e)
+numerals-kind m (Some n) (Some i) None w k h e = absurd (not-ok e)
+numerals-kind m (Some n) None o w k h e = absurd (not-ok e)
+numerals-kind m None i o w k h e = absurd (not-ok e)
 
-pub head-kind : (m : Bool) (l : List ℕ) (h : Head) → head_line m l ≡ HeadLine.Read h → h.moore ≡ m
+pub head-kind : (m : Bool) (l : List ℕ) (h : Head) → head_line m l ≡ Ok h → h.moore ≡ m
 unfolding head_line
 head-kind m l h e =
     numerals-kind m (numeral_of (field_at l 1)) (numeral_of (field_at l 2)) (numeral_of (field_at l 3)) (numeral_of (field_at l 4)) (fifth_of l) h
-    (chose-first (leb 5 (length (fields_of l)) && leb (length (fields_of l)) 6) e (head-not BadLine h)).1
+    (chose-first (leb 5 (length (fields_of l)) && leb (length (fields_of l)) 6) e not-ok).1
 
 -- ---- a row's line
 
-row_same : (a b : Row) → RowLine.Read a ≡ RowLine.Read b → a ≡ b
-row_same a b e = cc
-
-row-not : (f : Refusal) (r : Row) → RowLine.Refused f ≡ RowLine.Read r → ⊥
-row-not f r e = let z : ◌≡◌ {A = ℕ} 0 1 = cc in omega arith
-
-row-checked : (count : ℕ) (a r : Row) → row_checked count a ≡ RowLine.Read r → (count < most_rows) × (a.group ≡ 0 → ⊥) × (size a.next ≤ 1) × (a ≡ r)
+row-checked : (count : ℕ) (a r : Row) → row_checked count a ≡ Ok r → (count < most_rows) × (a.group ≡ 0 → ⊥) × (size a.next ≤ 1) × (a ≡ r)
 unfolding row_checked
 row-checked count a r e =
-    let e₁ = chose-second (leb most_rows count) e (row-not Limit r) in
-    let e₂ = chose-second (eqb a.group 0) e₁.1 (row-not EmptyGroup r) in
-    let e₃ = chose-second (leb 2 (size a.next)) e₂.1 (row-not NextState r) in
-    (leb-false most_rows count e₁.0, eqb-false a.group 0 e₂.0, omega (arith, leb-false 2 (size a.next) e₃.0), row_same a r e₃.1)
+    let e₁ = chose-second (leb most_rows count) e not-ok in
+    let e₂ = chose-second (eqb a.group 0) e₁.1 not-ok in
+    let e₃ = chose-second (leb 2 (size a.next)) e₂.1 not-ok in
+    (leb-false most_rows count e₁.0, eqb-false a.group 0 e₂.0, omega (arith, leb-false 2 (size a.next) e₃.0), same-ok e₃.1)
 
 pub pattern : (most k : ℕ) (f : List ℕ) → sized most k nought one dash f ≡ true → SoundPattern k (record { ones = set_of one f; dashes = set_of dash f })
 pattern most k f q = record {
@@ -189,14 +172,14 @@ pub record ReadRow (h : Head) (count line : ℕ) (r : Row) : Type 0 where
   pub keeps_line : r.line ≡ line
   pub plain : h.moore ≡ true → r.outputs ≡ no_pattern
 
-mealy-read : (h : Head) (count line : ℕ) (l : List ℕ) (r : Row) → h.moore ≡ false → mealy_line h count line l ≡ RowLine.Read r → ReadRow h count line r
+mealy-read : (h : Head) (count line : ℕ) (l : List ℕ) (r : Row) → h.moore ≡ false → mealy_line h count line l ≡ Ok r → ReadRow h count line r
 unfolding mealy_line outputs_fit
 mealy-read h count line l r m e =
     let five = eqb (length (fields_of l)) 5 in
     let fits = row_fits h (field_at l 1) (field_at l 2) (field_at l 3) in
     let outs = sized most_outputs h.outputs nought one dash (field_at l 4) in
     let row = row_of line (field_at l 1) (field_at l 2) (field_at l 3) (field_at l 4) in
-    let c = chose-first (five && (fits && outs)) e (row-not BadLine r) in
+    let c = chose-first (five && (fits && outs)) e not-ok in
     let k = row-checked count row r c.1 in
     let f = and_second five (fits && outs) c.0 in
     record {
@@ -206,13 +189,13 @@ mealy-read h count line l r m e =
       plain = λ q. absurd (false≢true (sym m ∙ q));
     }
 
-moore-read : (h : Head) (count line : ℕ) (l : List ℕ) (r : Row) → moore_line h count line l ≡ RowLine.Read r → ReadRow h count line r
+moore-read : (h : Head) (count line : ℕ) (l : List ℕ) (r : Row) → moore_line h count line l ≡ Ok r → ReadRow h count line r
 unfolding moore_line set_of
 moore-read h count line l r e =
     let four = eqb (length (fields_of l)) 4 in
     let fits = row_fits h (field_at l 1) (field_at l 2) (field_at l 3) in
     let row = row_of line (field_at l 1) (field_at l 2) (field_at l 3) [] in
-    let c = chose-first (four && fits) e (row-not BadLine r) in
+    let c = chose-first (four && fits) e not-ok in
     let k = row-checked count row r c.1 in
     record {
       room = k.0;
@@ -221,61 +204,46 @@ moore-read h count line l r e =
       plain = λ q. ap (λ (x : Row). x.outputs) (sym k.3);
     }
 
-pub row_read : (h : Head) (count line : ℕ) (l : List ℕ) (r : Row) → row_line h count line l ≡ RowLine.Read r → ReadRow h count line r
+pub row_read : (h : Head) (count line : ℕ) (l : List ℕ) (r : Row) → row_line h count line l ≡ Ok r → ReadRow h count line r
 unfolding row_line
 row_read h count line l r e = go h.moore refl e
   where
-    go : (m : Bool) → h.moore ≡ m → cond m (moore_line h count line l) (mealy_line h count line l) ≡ RowLine.Read r → ReadRow h count line r
+    go : (m : Bool) → h.moore ≡ m → cond m (moore_line h count line l) (mealy_line h count line l) ≡ Ok r → ReadRow h count line r
     go true m e = moore-read h count line l r e
     go false m e = mealy-read h count line l r m e
 
 -- ---- a state's outputs
 
-outputs-not : (f : Refusal) (s : StateNumber) (p : Pattern) → OutputsLine.Refused f ≡ OutputsLine.Read s p → ⊥
-outputs-not f s p e = let z : ◌≡◌ {A = ℕ} 0 1 = cc in omega arith
-
-outputs-state : (a b : StateNumber) (p q : Pattern) → OutputsLine.Read a p ≡ OutputsLine.Read b q → a ≡ b
-outputs-state a b p q e = cc
-
-outputs-pattern : (a b : StateNumber) (p q : Pattern) → OutputsLine.Read a p ≡ OutputsLine.Read b q → p ≡ q
-outputs-pattern a b p q e = cc
-
-pub outputs-sound : (h : Head) (l : List ℕ) (s : StateNumber) (p : Pattern) → outputs_line h l ≡ OutputsLine.Read s p → (s.0 < h.states) × SoundPattern h.outputs p
+pub outputs-sound : (h : Head) (l : List ℕ) (o : StateOutputs) → outputs_line h l ≡ Ok o → (o.state.0 < h.states) × SoundPattern h.outputs o.outputs
 unfolding outputs_line outputs_fit outputs_read
-outputs-sound h l s p e =
+outputs-sound h l o e =
     let three = eqb (length (fields_of l)) 3 in
     let fits = sized most_outputs h.outputs nought one dash (field_at l 2) in
-    let c = chose-first (three && fits) e (outputs-not BadLine s p) in
+    let c = chose-first (three && fits) e not-ok in
     on (numeral_of (field_at l 1)) (and_second three fits c.0) c.1
   where
-    read : (n : ℕ) → sized most_outputs h.outputs nought one dash (field_at l 2) ≡ true → outputs_read h n (field_at l 2) ≡ OutputsLine.Read s p → (s.0 < h.states) × SoundPattern h.outputs p
+    read : (n : ℕ) → sized most_outputs h.outputs nought one dash (field_at l 2) ≡ true → outputs_read h n (field_at l 2) ≡ Ok o → (o.state.0 < h.states) × SoundPattern h.outputs o.outputs
     read n q e =
-        let c = chose-first (ltb n h.states) e (outputs-not Limit s p) in
-        let same = outputs-state _ _ _ _ c.1 in
-        (subst (λ (a : StateNumber). a.0 < h.states) same (ltb-true n h.states c.0), subst (SoundPattern h.outputs) (outputs-pattern _ _ _ _ c.1) (pattern most_outputs h.outputs (field_at l 2) q))
+        let c = chose-first (ltb n h.states) e not-ok in
+        let same = same-ok c.1 in
+        (subst (λ (a : StateOutputs). a.state.0 < h.states) same (ltb-true n h.states c.0), subst (λ (a : StateOutputs). SoundPattern h.outputs a.outputs) same (pattern most_outputs h.outputs (field_at l 2) q))
 
-    on : (x : Numeral) → sized most_outputs h.outputs nought one dash (field_at l 2) ≡ true
-        → elim x as (λ _. OutputsLine) [ Is n ↦ outputs_read h n (field_at l 2) | Bad ↦ OutputsLine.Refused BadLine ] ≡ OutputsLine.Read s p → (s.0 < h.states) × SoundPattern h.outputs p
-    on (Is n) q e = read n q e
-    on Bad q e = absurd (outputs-not BadLine s p e)
+    on : (x : Option ℕ) → sized most_outputs h.outputs nought one dash (field_at l 2) ≡ true
+        → elim x as (λ _. Result StateOutputs Refusal) [ Some n ↦ outputs_read h n (field_at l 2) | None ↦ Err BadLine ] ≡ Ok o → (o.state.0 < h.states) × SoundPattern h.outputs o.outputs
+    on (Some n) q e = read n q e
+    on None q e = absurd (not-ok e)
 
 -- ---- a dichotomy's line
 
-blocks-same : (a b : Requirement) → DichotomyLine.Read a ≡ DichotomyLine.Read b → a ≡ b
-blocks-same a b e = cc
-
-blocks-not : (f : Refusal) (d : Requirement) → DichotomyLine.Refused f ≡ DichotomyLine.Read d → ⊥
-blocks-not f d e = let z : ◌≡◌ {A = ℕ} 0 1 = cc in omega arith
-
-pub dichotomy-sound : (h : Head) (count : ℕ) (l : List ℕ) (d : Requirement) → dichotomy_line h count l ≡ DichotomyLine.Read d
+pub dichotomy-sound : (h : Head) (count : ℕ) (l : List ℕ) (d : Requirement) → dichotomy_line h count l ≡ Ok d
     → (count < most_dichotomies) × SoundBlocks h.states d
 unfolding dichotomy_line
 dichotomy-sound h count l d e =
     let two = eqb (length (fields_of l)) 2 in
     let fits = sized most_states h.states plus dash dot (field_at l 1) in
-    let c = chose-first (two && fits) e (blocks-not BadLine d) in
-    let k = chose-second (leb most_dichotomies count) c.1 (blocks-not Limit d) in
-    (leb-false most_dichotomies count k.0, subst (SoundBlocks h.states) (blocks-same _ _ k.1) (blocks (field_at l 1) (and_second two fits c.0)))
+    let c = chose-first (two && fits) e not-ok in
+    let k = chose-second (leb most_dichotomies count) c.1 not-ok in
+    (leb-false most_dichotomies count k.0, subst (SoundBlocks h.states) (same-ok k.1) (blocks (field_at l 1) (and_second two fits c.0)))
   where
     blocks : (f : List ℕ) → sized most_states h.states plus dash dot f ≡ true
         → SoundBlocks h.states (record { first = set_of plus f; second = set_of dash f })

@@ -1,4 +1,5 @@
--- Which way a choice went, told by what it gave; and that a refusal is no acceptance.
+-- Which way a choice went, told by what it gave; that a refusal is no acceptance; and what a line says, told by its reader's answer.
+use Rattle.std.specs.Prelude.{Result, Ok, Err}
 use mathlib.Core.Path.{◌≡◌, refl}
 use mathlib.Core.Bool.{Bool, true, false, cond}
 use Prim.Native.Nat.{ℕ}
@@ -17,3 +18,11 @@ module _ {A : Type 0} {a b c : A} where
 
 pub not-accepted : (r : Refusal) (k : ℕ) → Verdict.Refused r k ≡ Verdict.Accepted → ⊥
 not-accepted r k e = let z : ◌≡◌ {A = ℕ} 0 1 = cc in omega arith
+
+module _ {A : Type 0} where
+  -- two answers that are one say one thing
+  pub same-ok : {a b : A} → ◌≡◌ {A = Result A Refusal} (Ok a) (Ok b) → a ≡ b
+  same-ok e = cc
+
+  pub not-ok : {r : Refusal} {a : A} → ◌≡◌ {A = Result A Refusal} (Err r) (Ok a) → ⊥
+  not-ok e = let z : ◌≡◌ {A = ℕ} 0 1 = cc in omega arith

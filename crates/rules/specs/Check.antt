@@ -1,6 +1,6 @@
 -- 02, request 10: a code and a cover from elsewhere are checked. `OK` says that the codes are distinct, that every group requirement is met, and that the
 -- cover agrees with the listing at each input and state.
-use Rattle.std.specs.Prelude.{Bool, true, false, not, List, [], ◌∷◌, ◌++◌, map, ℕ, zero, suc, ◌+◌, ◌^◌, length, take}
+use Rattle.std.specs.Prelude.{Bool, true, false, not, List, [], ◌∷◌, ◌++◌, map, ℕ, zero, suc, ◌+◌, ◌^◌, take, Option, Some, None}
 use Rattle.sets.specs.Sets.{states_from}
 use Rattle.rules.specs.Text.{bytes, lf, space, split, lines_of, decimal}
 use Rattle.rules.specs.Listing.{reading}
@@ -16,7 +16,6 @@ use Rattle.rules.specs.declared.CodeTable.{CodeTable}
 use Rattle.rules.specs.declared.CodesReading.{CodesReading}
 use Rattle.rules.specs.declared.Verdict.{Verdict}
 use Rattle.rules.specs.declared.Fault.{Fault}
-use Rattle.rules.specs.declared.Fault.TheVariants.{At, Nowhere}
 
 -- the bits of some codes of n states
 unfoldable pub bits_of : ℕ → CodeTable → List ℕ
@@ -30,35 +29,35 @@ unfoldable pub fails : Listing → List ℕ → List (List ℕ) → ℕ → ℕ 
 unfolding agrees_at turned
 fails t bits ls s v = not (agrees_at t bits ls (turned t.head.inputs v) s)
 
-pub data Lowest : Type 0 where
-  lowest : ℕ → Lowest
-  none : Lowest
-
 -- of k numbers from a on, the lowest that has p
-unfoldable pub lowest_from : (ℕ → Bool) → ℕ → ℕ → Lowest
-lowest_from p a zero = none
-lowest_from p a (suc k) = elim (p a) [ true ↦ lowest a | false ↦ lowest_from p (suc a) k ]
+unfoldable pub lowest_from : (ℕ → Bool) → ℕ → ℕ → Option ℕ
+lowest_from p a zero = None
+lowest_from p a (suc k) = elim (p a) [ true ↦ Some a | false ↦ lowest_from p (suc a) k ]
+
+-- a fault at that state and input
+abbrev pub fault_at : ℕ → ℕ → Option Fault
+fault_at s v = Some (record { state = record { 0 = s }; input = v })
 
 -- of k states from s on the lowest where it fails, and for it the lowest such input
-unfoldable pub fault_from : (ℕ → ℕ → Bool) → ℕ → ℕ → ℕ → Fault
+unfoldable pub fault_from : (ℕ → ℕ → Bool) → ℕ → ℕ → ℕ → Option Fault
 unfolding lowest_from
-fault_from p i s zero = Nowhere
-fault_from p i s (suc k) = elim (lowest_from (p s) 0 (2 ^ i)) [ lowest v ↦ At (record { 0 = s }) v | none ↦ fault_from p i (suc s) k ]
+fault_from p i s zero = None
+fault_from p i s (suc k) = elim (lowest_from (p s) 0 (2 ^ i)) [ Some v ↦ fault_at s v | None ↦ fault_from p i (suc s) k ]
 
-unfoldable pub fault_of : Listing → List ℕ → List (List ℕ) → Fault
+unfoldable pub fault_of : Listing → List ℕ → List (List ℕ) → Option Fault
 unfolding fails fault_from
 fault_of t bits ls = fault_from (fails t bits ls) t.head.inputs 0 t.head.states
 
 -- ---- the answer
 
 -- `OK`, or `AT state input`
-unfoldable pub fault_line : Fault → List ℕ
+unfoldable pub fault_line : Option Fault → List ℕ
 unfolding decimal
-fault_line (At s v) = bytes "AT " ++ (decimal s.0 ++ (space ∷ (decimal v ++ (lf ∷ []))))
-fault_line Nowhere = bytes "OK\n"
+fault_line (Some f) = bytes "AT " ++ (decimal f.state.0 ++ (space ∷ (decimal f.input ++ (lf ∷ []))))
+fault_line None = bytes "OK\n"
 
 -- `UN` and the lowest pair or group requirement that is unmet goes first
-unfoldable pub check_line : List ℕ → Fault → List ℕ
+unfoldable pub check_line : List ℕ → Option Fault → List ℕ
 unfolding unmet_line fault_line
 check_line [] f = fault_line f
 check_line (r ∷ rs) f = unmet_line (record { 0 = r })

@@ -1,12 +1,10 @@
 -- 02, request 10: the two texts that are checked, the codes and the cover. Each is read line by line from the top, and the first faulty line decides.
-use Rattle.std.specs.Prelude.{Bool, true, false, ◌&&◌, cond, List, [], ◌∷◌, ℕ, zero, suc, ◌+◌, ◌*◌, leb, ltb, eqb, length, get_or, set, replicate}
-use Rattle.sets.specs.Sets.{has, states_from}
+use Rattle.std.specs.Prelude.{Bool, true, false, ◌&&◌, cond, List, [], ◌∷◌, ℕ, zero, suc, ◌+◌, ◌*◌, leb, ltb, eqb, length, get_or, set, replicate, Result, Option, Ok, Err, Some, None}
+use Rattle.sets.specs.Sets.{has}
 use Rattle.rules.specs.Limits.{most_states, most_bits, most_checked}
 use Rattle.rules.specs.Text.{bytes, dash, nought, one, same, split, fields_of, field_at, mark_of, all_of, sized, set_of, numeral_of}
 use Rattle.rules.specs.Listing.{nothing}
 use Rattle.rules.specs.Replay.{marked}
-use Rattle.rules.specs.declared.Numeral.{Numeral}
-use Rattle.rules.specs.declared.Numeral.TheVariants.{Is, Bad}
 use Rattle.rules.specs.declared.Refusal.{Refusal}
 use Rattle.rules.specs.declared.Refusal.TheVariants.{BadLine, Limit, Misfit}
 use Rattle.rules.specs.declared.Verdict.{Verdict}
@@ -15,7 +13,6 @@ use Rattle.rules.specs.declared.CodesReading.{CodesReading}
 use Rattle.rules.specs.declared.CoverPart.{CoverPart}
 use Rattle.rules.specs.declared.CoverPart.TheVariants.{Inputs, Outputs, Kind, Products, Rows, Over}
 use Rattle.rules.specs.declared.CoverHeads.{CoverHeads}
-use Rattle.rules.specs.declared.CoverLine.{CoverLine}
 
 -- ---- the codes: `SC state code` for each state, in order
 
@@ -32,7 +29,7 @@ width_in l = cond (same (field_at l 2) (dash ∷ [])) 0 (length (field_at l 2))
 -- a field is the number s, written as in `MC`
 unfoldable pub is_number : ℕ → List ℕ → Bool
 unfolding numeral_of
-is_number s f = elim (numeral_of f) [ Is v ↦ eqb v s | Bad ↦ false ]
+is_number s f = elim (numeral_of f) [ Some v ↦ eqb v s | None ↦ false ]
 
 -- the line of the state s, whose code has w bits
 unfoldable pub code_good : ℕ → ℕ → List ℕ → Bool
@@ -74,9 +71,9 @@ bit_in k (c ∷ cs) = bit_in k cs * 2 + has c k
 -- ---- the cover: `.i`, `.o`, `.type fd` or not, `.p`, that many rows, `.e`
 
 -- a mark and a number behind it
-unfoldable pub number_behind : List ℕ → List ℕ → Numeral
+unfoldable pub number_behind : List ℕ → List ℕ → Option ℕ
 unfolding marked numeral_of split
-number_behind mark l = cond (marked mark l) (numeral_of (field_at l 1)) Bad
+number_behind mark l = cond (marked mark l) (numeral_of (field_at l 1)) None
 
 -- k characters `0 1 -`, and not none
 unfoldable pub places_fit : ℕ → List ℕ → Bool
@@ -92,17 +89,17 @@ abbrev pub no_heads : CoverHeads
 no_heads = record { part = Inputs; inputs = 0; outputs = 0; products = 0; rows = 0 }
 
 -- what each line makes of those before it
-abbrev pub with_inputs : Numeral → CoverHeads → CoverLine
-with_inputs (Is v) h = CoverLine.Read (record { part = Outputs; inputs = v; outputs = h.outputs; products = h.products; rows = h.rows })
-with_inputs Bad h = CoverLine.Refused BadLine
+abbrev pub with_inputs : Option ℕ → CoverHeads → Result CoverHeads Refusal
+with_inputs (Some v) h = Ok (record { part = Outputs; inputs = v; outputs = h.outputs; products = h.products; rows = h.rows })
+with_inputs None h = Err BadLine
 
-abbrev pub with_outputs : Numeral → CoverHeads → CoverLine
-with_outputs (Is v) h = CoverLine.Read (record { part = Kind; inputs = h.inputs; outputs = v; products = h.products; rows = h.rows })
-with_outputs Bad h = CoverLine.Refused BadLine
+abbrev pub with_outputs : Option ℕ → CoverHeads → Result CoverHeads Refusal
+with_outputs (Some v) h = Ok (record { part = Kind; inputs = h.inputs; outputs = v; products = h.products; rows = h.rows })
+with_outputs None h = Err BadLine
 
-abbrev pub with_products : Numeral → CoverHeads → CoverLine
-with_products (Is v) h = CoverLine.Read (record { part = Rows; inputs = h.inputs; outputs = h.outputs; products = v; rows = h.rows })
-with_products Bad h = CoverLine.Refused BadLine
+abbrev pub with_products : Option ℕ → CoverHeads → Result CoverHeads Refusal
+with_products (Some v) h = Ok (record { part = Rows; inputs = h.inputs; outputs = h.outputs; products = v; rows = h.rows })
+with_products None h = Err BadLine
 
 abbrev pub in_part : CoverPart → CoverHeads → CoverHeads
 in_part p h = record { part = p; inputs = h.inputs; outputs = h.outputs; products = h.products; rows = h.rows }
@@ -111,27 +108,27 @@ abbrev pub with_row : CoverHeads → CoverHeads
 with_row h = record { part = Rows; inputs = h.inputs; outputs = h.outputs; products = h.products; rows = h.rows + 1 }
 
 -- a row: one more than `.p` says is 1, and the 257th is 2
-unfoldable pub row_counted : CoverHeads → List ℕ → CoverLine
+unfoldable pub row_counted : CoverHeads → List ℕ → Result CoverHeads Refusal
 unfolding row_good
 row_counted h l =
     cond (row_good h l && ltb h.rows h.products)
-    (cond (ltb h.rows most_checked) (CoverLine.Read (with_row h)) (CoverLine.Refused Limit))
-    (CoverLine.Refused BadLine)
+    (cond (ltb h.rows most_checked) (Ok (with_row h)) (Err Limit))
+    (Err BadLine)
 
 -- `.e`, behind as many rows as `.p` says
-unfoldable pub end_counted : CoverHeads → CoverLine
-end_counted h = cond (eqb h.rows h.products) (CoverLine.Read (in_part Over h)) (CoverLine.Refused BadLine)
+unfoldable pub end_counted : CoverHeads → Result CoverHeads Refusal
+end_counted h = cond (eqb h.rows h.products) (Ok (in_part Over h)) (Err BadLine)
 
-unfoldable pub cover_line_in : CoverPart → CoverHeads → List ℕ → CoverLine
+unfoldable pub cover_line_in : CoverPart → CoverHeads → List ℕ → Result CoverHeads Refusal
 unfolding number_behind same row_counted end_counted
 cover_line_in Inputs h l = with_inputs (number_behind (bytes ".i") l) h
 cover_line_in Outputs h l = with_outputs (number_behind (bytes ".o") l) h
-cover_line_in Kind h l = cond (same l (bytes ".type fd")) (CoverLine.Read (in_part Products h)) (with_products (number_behind (bytes ".p") l) h)
+cover_line_in Kind h l = cond (same l (bytes ".type fd")) (Ok (in_part Products h)) (with_products (number_behind (bytes ".p") l) h)
 cover_line_in Products h l = with_products (number_behind (bytes ".p") l) h
 cover_line_in Rows h l = cond (same l (bytes ".e")) (end_counted h) (row_counted h l)
-cover_line_in Over h l = CoverLine.Refused BadLine
+cover_line_in Over h l = Err BadLine
 
-unfoldable pub cover_line : CoverHeads → List ℕ → CoverLine
+unfoldable pub cover_line : CoverHeads → List ℕ → Result CoverHeads Refusal
 unfolding cover_line_in
 cover_line h l = cover_line_in h.part h l
 
@@ -158,7 +155,7 @@ unfoldable pub cover_from : ℕ → ℕ → ℕ → CoverHeads → List (List �
 unfolding cover_end cover_line
 cover_from i o k h [] = Verdict.Refused BadLine k
 cover_from i o k h (l ∷ []) = cover_end i o k h l
-cover_from i o k h (l ∷ (m ∷ ms)) = elim (cover_line h l) [ CoverLine.Read g ↦ cover_from i o (k + 1) g (m ∷ ms) | CoverLine.Refused r ↦ Verdict.Refused r k ]
+cover_from i o k h (l ∷ (m ∷ ms)) = elim (cover_line h l) [ Ok g ↦ cover_from i o (k + 1) g (m ∷ ms) | Err r ↦ Verdict.Refused r k ]
 
 unfoldable pub cover_reading : ℕ → ℕ → List (List ℕ) → Verdict
 unfolding cover_from

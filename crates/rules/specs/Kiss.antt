@@ -1,6 +1,6 @@
 -- 02, request 01: the listing that a KISS2 text says. Lines from the top, the first faulty line decides, within it 3, 1, 12, 2; then a `.s` or `.p` that disagrees, 12;
 -- then the conflict.
-use Rattle.std.specs.Prelude.{Bool, true, false, ◌&&◌, ◌||◌, not, cond, List, [], ◌∷◌, ◌++◌, map, ℕ, ◌+◌, length, take, get_or, set, replicate, leb, ltb, eqb}
+use Rattle.std.specs.Prelude.{Bool, true, false, ◌&&◌, ◌||◌, not, cond, List, [], ◌∷◌, ◌++◌, map, ℕ, ◌+◌, length, take, get_or, set, replicate, leb, ltb, eqb, Option, Some, None}
 use Rattle.std.specs.Int.Bits.{bit_and, bit_or}
 use Rattle.sets.specs.Sets.{only, everyone}
 use Rattle.rules.specs.Limits.{most_bytes, most_states, most_inputs, most_outputs, most_rows, most_dichotomies}
@@ -13,8 +13,6 @@ use Rattle.rules.specs.declared.Listing.{Listing}
 use Rattle.rules.specs.declared.Told.{Told}
 use Rattle.rules.specs.declared.KissHeads.{KissHeads}
 use Rattle.rules.specs.declared.KissMark.{KissMark}
-use Rattle.rules.specs.declared.Numeral.{Numeral}
-use Rattle.rules.specs.declared.Numeral.TheVariants.{Is, Bad}
 use Rattle.rules.specs.declared.Refusal.{Refusal}
 use Rattle.rules.specs.declared.Refusal.TheVariants.{BadLine, Limit, Place, Names}
 use Rattle.rules.specs.declared.Verdict.{Verdict}
@@ -125,9 +123,9 @@ row_does k d input present next outputs =
 
 -- ---- the lines
 
-abbrev pub on_number : Numeral → (ℕ → KissStep) → KissStep
-on_number (Is n) f = f n
-on_number Bad f = stops BadLine
+abbrev pub on_number : Option ℕ → (ℕ → KissStep) → KissStep
+on_number (Some n) f = f n
+on_number None f = stops BadLine
 
 -- inputs 1..16, outputs 1..32
 unfoldable pub inputs_do : Draft → ℕ → KissStep

@@ -1,10 +1,8 @@
 -- 02, request 01: the lines of a KISS2 text. Which mark leads a line, what its fields have to be, and which row a line of a row is.
-use Rattle.std.specs.Prelude.{Bool, true, false, ◌&&◌, not, cond, List, [], ◌∷◌, ℕ, suc, length, leb, eqb}
+use Rattle.std.specs.Prelude.{Bool, true, false, ◌&&◌, not, cond, List, [], ◌∷◌, ℕ, suc, length, leb, eqb, Option, None}
 use Rattle.rules.specs.Limits.{most_inputs, most_outputs, most_name}
 use Rattle.rules.specs.Text.{bytes, same, nought, one, dash, dot, split, fields_of, field_at, sized, numeral_of}
 use Rattle.rules.specs.declared.KissMark.{KissMark}
-use Rattle.rules.specs.declared.Numeral.{Numeral}
-use Rattle.rules.specs.declared.Numeral.TheVariants.{Bad}
 
 -- ---- marks
 
@@ -27,9 +25,9 @@ kiss_mark m =
 -- ---- headers
 
 -- `.i`, `.o`, `.s` and `.p`: one number behind the mark
-unfoldable pub number_line : List ℕ → Numeral
+unfoldable pub number_line : List ℕ → Option ℕ
 unfolding split numeral_of
-number_line l = cond (eqb (length (fields_of l)) 2) (numeral_of (field_at l 1)) Bad
+number_line l = cond (eqb (length (fields_of l)) 2) (numeral_of (field_at l 1)) None
 
 -- ---- names
 

@@ -1,6 +1,7 @@
 -- 01, "The listing" and the order of its refusals, with 02, requests 05 and 13: lines from the top, the first faulty line decides, then a state without outputs, then the
 -- conflict; of a flow table, then a destination that is not stable, then too many dichotomies.
-use Rattle.std.specs.Prelude.{Bool, true, false, ◌&&◌, ◌||◌, not, cond, List, [], ◌∷◌, ◌++◌, ℕ, ◌+◌, length, take, set, replicate, leb, eqb}
+use Rattle.rules.specs.declared.StateOutputs.{StateOutputs}
+use Rattle.std.specs.Prelude.{Bool, true, false, ◌&&◌, ◌||◌, not, cond, List, [], ◌∷◌, ◌++◌, ℕ, ◌+◌, length, take, set, replicate, leb, eqb, Result, Ok, Err, Some, None}
 use Rattle.std.specs.Int.Bits.{bit_and, bit_or}
 use Rattle.sets.specs.Sets.{has, only, everyone, every, states_from}
 use Rattle.rules.specs.Limits.{most_bytes, most_states, most_inputs, most_rows, most_dichotomies}
@@ -15,15 +16,9 @@ use Rattle.rules.specs.declared.Requirement.{Requirement}
 use Rattle.rules.specs.declared.Listing.{Listing}
 use Rattle.rules.specs.declared.Mark.{Mark}
 use Rattle.rules.specs.declared.Mark.TheVariants.{Mc, Mo, Pt, Di, Ou, Ft, En, Unknown}
-use Rattle.rules.specs.declared.Numeral.TheVariants.{Is, Bad}
 use Rattle.rules.specs.declared.Refusal.{Refusal}
 use Rattle.rules.specs.declared.Refusal.TheVariants.{BadLine, Limit, Place, Conflict, NoOutputs}
 use Rattle.rules.specs.declared.Verdict.{Verdict}
-use Rattle.rules.specs.declared.HeadLine.{HeadLine}
-use Rattle.rules.specs.declared.RowLine.{RowLine}
-use Rattle.rules.specs.declared.DichotomyLine.{DichotomyLine}
-use Rattle.rules.specs.declared.OutputsLine.{OutputsLine}
-use Rattle.rules.specs.declared.EndLine.{EndLine}
 use Rattle.rules.specs.declared.Reading.{Reading}
 
 -- ---- a listing as it grows
@@ -120,30 +115,30 @@ pub data Step : Type 0 where
   ends : Step
   stops : Refusal → Step
 
-abbrev pub on_head : HeadLine → Listing → Step
-on_head (HeadLine.Read h) t = goes (with_head h t)
-on_head (HeadLine.Refused r) t = stops r
+abbrev pub on_head : Result Head Refusal → Listing → Step
+on_head (Ok h) t = goes (with_head h t)
+on_head (Err r) t = stops r
 
-abbrev pub on_row : RowLine → Listing → Step
-on_row (RowLine.Read r) t = goes (with_row r t)
-on_row (RowLine.Refused r) t = stops r
+abbrev pub on_row : Result Row Refusal → Listing → Step
+on_row (Ok r) t = goes (with_row r t)
+on_row (Err r) t = stops r
 
-abbrev pub on_dichotomy : DichotomyLine → Listing → Step
-on_dichotomy (DichotomyLine.Read d) t = goes (with_dichotomy d t)
-on_dichotomy (DichotomyLine.Refused r) t = stops r
+abbrev pub on_dichotomy : Result Requirement Refusal → Listing → Step
+on_dichotomy (Ok d) t = goes (with_dichotomy d t)
+on_dichotomy (Err r) t = stops r
 
-abbrev pub on_outputs : OutputsLine → Listing → Step
-on_outputs (OutputsLine.Read s p) t = goes (with_outputs s.0 p t)
-on_outputs (OutputsLine.Refused r) t = stops r
+abbrev pub on_outputs : Result StateOutputs Refusal → Listing → Step
+on_outputs (Ok o) t = goes (with_outputs o.state.0 o.outputs t)
+on_outputs (Err r) t = stops r
 
-abbrev pub on_end : EndLine → Step
-on_end EndLine.Read = ends
-on_end (EndLine.Refused r) = stops r
+abbrev pub on_end : Result Unit Refusal → Step
+on_end (Ok tt) = ends
+on_end (Err r) = stops r
 
 -- the state that an `OU` line names, if its number can be read, has had one
 unfoldable pub had_outputs : ℕ → List ℕ → Bool
 unfolding split numeral_of
-had_outputs given l = elim (numeral_of (field_at l 1)) [ Is s ↦ eqb (has given s) 1 | Bad ↦ false ]
+had_outputs given l = elim (numeral_of (field_at l 1)) [ Some s ↦ eqb (has given s) 1 | None ↦ false ]
 
 -- The place of line k, under the head h and behind `OU` lines of the states given: `MC` or `MO` is line 1 and no other; `OU` stands under `MO`,
 -- once for a state; `FT` stands in a flow table alone.
@@ -265,8 +260,8 @@ read_all [] = read_lines 1 blank []
 read_all (l ∷ []) = read_lines 1 blank (l ∷ [])
 read_all (l ∷ (m ∷ ms)) =
     elim (flow_head l m) [
-      | HeadLine.Read h ↦ flow_lines 2 h (m ∷ ms) (m ∷ ms)
-      | HeadLine.Refused r ↦ read_lines 1 blank (l ∷ (m ∷ ms))
+      | Ok h ↦ flow_lines 2 h (m ∷ ms) (m ∷ ms)
+      | Err r ↦ read_lines 1 blank (l ∷ (m ∷ ms))
     ]
 
 -- ---- the conflict

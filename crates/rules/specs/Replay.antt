@@ -1,6 +1,7 @@
 -- 02, request 08: a recorded run is replayed. The symbolic machine and the encoded cover are stepped side by side, each on its own, over the lines of a
 -- second text.
-use Rattle.std.specs.Prelude.{Bool, true, false, ◌&&◌, cond, List, [], ◌∷◌, ◌++◌, map, ℕ, ◌+◌, leb, ltb, eqb, length}
+use Rattle.rules.specs.declared.StateNumber.{StateNumber}
+use Rattle.std.specs.Prelude.{Bool, true, false, ◌&&◌, cond, List, [], ◌∷◌, ◌++◌, map, ℕ, ◌+◌, leb, ltb, eqb, length, Result, Option, Ok, Err, Some, None}
 use Rattle.std.specs.Int.Count.{count_trailing_zeros}
 use Rattle.sets.specs.Sets.{states_from}
 use Rattle.rules.specs.Limits.{most_inputs, most_states, most_steps}
@@ -13,12 +14,8 @@ use Rattle.rules.specs.Meaning.{Meaning, on, free, off, output_means, next_means
 use Rattle.rules.specs.Answers.{Reply, says, refuses, cover_of, on_reading, printed}
 use Rattle.rules.specs.declared.Head.{Head}
 use Rattle.rules.specs.declared.Listing.{Listing}
-use Rattle.rules.specs.declared.Numeral.{Numeral}
-use Rattle.rules.specs.declared.Numeral.TheVariants.{Is, Bad}
 use Rattle.rules.specs.declared.Refusal.{Refusal}
 use Rattle.rules.specs.declared.Refusal.TheVariants.{BadLine, Limit, NoNext}
-use Rattle.rules.specs.declared.StartLine.{StartLine}
-use Rattle.rules.specs.declared.VectorLine.{VectorLine}
 
 -- ---- the lines of the second text
 
@@ -28,21 +25,21 @@ unfolding split mark_of same
 marked mark l = eqb (length (fields_of l)) 2 && same (mark_of l) mark
 
 -- `SS state`, its number written as in `MC`: a state that is not below n is 1
-unfoldable pub start_read : Head → Numeral → StartLine
-start_read h (Is s) = cond (ltb s h.states) (StartLine.Read (record { 0 = s })) (StartLine.Refused BadLine)
-start_read h Bad = StartLine.Refused BadLine
+unfoldable pub start_read : Head → Option ℕ → Result StateNumber Refusal
+start_read h (Some s) = cond (ltb s h.states) (Ok (record { 0 = s })) (Err BadLine)
+start_read h None = Err BadLine
 
-unfoldable pub start_line : Head → List ℕ → StartLine
+unfoldable pub start_line : Head → List ℕ → Result StateNumber Refusal
 unfolding split marked numeral_of start_read
-start_line h l = cond (marked (bytes "SS") l) (start_read h (numeral_of (field_at l 1))) (StartLine.Refused BadLine)
+start_line h l = cond (marked (bytes "SS") l) (start_read h (numeral_of (field_at l 1))) (Err BadLine)
 
 -- `IN vector`, i of `0 1`, behind so many others: 2 for the 10,001st
-unfoldable pub vector_line : Head → ℕ → List ℕ → VectorLine
+unfoldable pub vector_line : Head → ℕ → List ℕ → Result ℕ Refusal
 unfolding split marked sized set_of
 vector_line h done l =
     cond (marked (bytes "IN") l && sized most_inputs h.inputs nought one one (field_at l 1))
-    (cond (leb most_steps done) (VectorLine.Refused Limit) (VectorLine.Read (set_of one (field_at l 1))))
-    (VectorLine.Refused BadLine)
+    (cond (leb most_steps done) (Err Limit) (Ok (set_of one (field_at l 1))))
+    (Err BadLine)
 
 -- ---- the symbolic machine, at the input vector x and the state s
 
@@ -105,8 +102,8 @@ run_from t ls done s code [] = over
 run_from t ls done s code (l ∷ []) = run_end (done + 2) l
 run_from t ls done s code (l ∷ (m ∷ ms)) =
     elim (vector_line t.head done l) [
-      | VectorLine.Refused r ↦ stopped r (done + 2)
-      | VectorLine.Read x ↦ elim (eqb (next_means t x s) 0) [
+      | Err r ↦ stopped r (done + 2)
+      | Ok x ↦ elim (eqb (next_means t x s) 0) [
         | true ↦ stopped NoNext (done + 2)
         | false ↦ steps (shown t ls x s code) (run_from t ls (done + 1) (state_after t x s) (code_after ls t.head x code) (m ∷ ms))
       ]
@@ -119,8 +116,8 @@ run_of t bits ls [] = stopped BadLine 1
 run_of t bits ls (l ∷ []) = stopped BadLine 1
 run_of t bits ls (l ∷ (m ∷ ms)) =
     elim (start_line t.head l) [
-      | StartLine.Refused r ↦ stopped r 1
-      | StartLine.Read s ↦ run_from t ls 0 s.0 (code_of bits s.0) (m ∷ ms)
+      | Err r ↦ stopped r 1
+      | Ok s ↦ run_from t ls 0 s.0 (code_of bits s.0) (m ∷ ms)
     ]
 
 -- ---- what is printed

@@ -1,12 +1,11 @@
 -- 01, "Report and cover", and 02, request 04: the report, line by line.
-use Rattle.std.specs.Prelude.{List, [], ◌∷◌, ◌++◌, map, ℕ, suc, ◌+◌, length}
+use Rattle.std.specs.Prelude.{List, [], ◌∷◌, ◌++◌, map, ℕ, suc, ◌+◌, length, Some, None}
 use Rattle.sets.specs.Sets.{states_from}
 use Rattle.rules.specs.Text.{bytes, lf, space, dash, nought, decimal}
 use Rattle.rules.specs.Requirements.{requirements, judgement}
 use Rattle.rules.specs.Code.{Code, unmet, code_of}
 use Rattle.rules.specs.declared.Listing.{Listing}
 use Rattle.rules.specs.declared.Requirement.{Requirement}
-use Rattle.rules.specs.declared.Judgement.TheVariants.{By, ByNone}
 use Rattle.rules.specs.declared.StateNumber.{StateNumber}
 use Rattle.rules.specs.declared.RequirementNumber.{RequirementNumber}
 use Rattle.rules.specs.declared.BitNumber.{BitNumber}
@@ -51,7 +50,7 @@ unfoldable pub met_lines : ℕ → ℕ → List ℕ → List Requirement → Lis
 unfolding judgement met_line
 met_lines k n bits [] = []
 met_lines k n bits (r ∷ rs) =
-    let rest = met_lines (suc k) n bits rs in elim (judgement n bits r) [ By b ↦ met_line (record { 0 = k }) b ∷ rest | ByNone ↦ rest ]
+    let rest = met_lines (suc k) n bits rs in elim (judgement n bits r) [ Some b ↦ met_line (record { 0 = k }) b ∷ rest | None ↦ rest ]
 
 -- the counts, a line for each state, one for each requirement that is met, one for each that is not, and the end
 unfoldable pub report_lines : Listing → Code → List (List ℕ)

@@ -1,10 +1,9 @@
 -- 01, "Requirements": which there are, in which order, what meeting one is (001, section II), and by which bit a code does.
-use Rattle.std.specs.Prelude.{Bool, true, false, ◌&&◌, ◌||◌, not, cond, List, [], ◌∷◌, ◌++◌, map, ℕ, zero, suc, ◌+◌, leb, ltb, eqb}
+use Rattle.rules.specs.declared.BitNumber.{BitNumber}
+use Rattle.std.specs.Prelude.{Bool, true, false, ◌&&◌, ◌||◌, not, cond, List, [], ◌∷◌, ◌++◌, map, ℕ, zero, suc, ◌+◌, leb, ltb, eqb, Option, Some, None}
 use Rattle.sets.specs.Sets.{has, only, size, every, states_from}
 use Rattle.rules.specs.Listing.{rows_of, dichotomies_of}
 use Rattle.rules.specs.declared.Requirement.{Requirement}
-use Rattle.rules.specs.declared.Judgement.{Judgement}
-use Rattle.rules.specs.declared.Judgement.TheVariants.{By, ByNone}
 use Rattle.rules.specs.declared.Row.{Row}
 use Rattle.rules.specs.declared.Listing.{Listing}
 
@@ -64,18 +63,18 @@ met n r b = (wholly n b 0 r.first && wholly n b 1 r.second) || (wholly n b 1 r.f
 
 -- 02, request 04: the judgement of a requirement against a code is the lowest bit that meets it, from 0, leftmost first, or that none does. The first of
 -- these bits has the number k.
-unfoldable pub judged_from : ℕ → ℕ → List ℕ → Requirement → Judgement
+unfoldable pub judged_from : ℕ → ℕ → List ℕ → Requirement → Option BitNumber
 unfolding met
-judged_from k n [] r = ByNone
-judged_from k n (b ∷ bs) r = cond (met n r b) (By (record { 0 = k })) (judged_from (suc k) n bs r)
+judged_from k n [] r = None
+judged_from k n (b ∷ bs) r = cond (met n r b) (Some (record { 0 = k })) (judged_from (suc k) n bs r)
 
-unfoldable pub judgement : ℕ → List ℕ → Requirement → Judgement
+unfoldable pub judgement : ℕ → List ℕ → Requirement → Option BitNumber
 unfolding judged_from
 judgement n bits r = judged_from 0 n bits r
 
-unfoldable pub is_by : Judgement → Bool
-is_by (By b) = true
-is_by ByNone = false
+unfoldable pub is_by : Option BitNumber → Bool
+is_by (Some b) = true
+is_by None = false
 
 -- a code meets a requirement where some bit is judged to, so a code of no bits meets none
 unfoldable pub met_by_code : ℕ → List ℕ → Requirement → Bool

@@ -1,9 +1,7 @@
 -- 01, "The listing": bytes, lines and fields, numbers and sets in a field.
-use Rattle.std.specs.Prelude.{Bool, true, false, ◌&&◌, ◌||◌, not, cond, List, [], ◌∷◌, ◌++◌, ℕ, zero, suc, ◌+◌, ◌*◌, ◌-◌, ◌/◌, ◌%◌, length, get_or, leb, ltb, eqb}
+use Rattle.std.specs.Prelude.{Bool, true, false, ◌&&◌, ◌||◌, not, cond, List, [], ◌∷◌, ◌++◌, ℕ, zero, suc, ◌+◌, ◌*◌, ◌-◌, ◌/◌, ◌%◌, length, get_or, leb, ltb, eqb, Option, Some, None}
 use Prim.Native.Char.{code}
 use Prim.Native.String.{String, [] as end, ◌∷◌ as ◌◃◌}
-use Rattle.rules.specs.declared.Numeral.{Numeral}
-use Rattle.rules.specs.declared.Numeral.TheVariants.{Is, Bad}
 use Rattle.rules.specs.declared.Mark.{Mark}
 use Rattle.rules.specs.declared.Mark.TheVariants.{Mc, Mo, Pt, Di, Ou, Ft, En, Unknown}
 
@@ -107,14 +105,14 @@ set_of c (x ∷ xs) = set_of c xs * 2 + digit (eqb x c)
 -- ---- numbers
 
 -- the digits of a field, behind those that made v
-unfoldable pub digits_of : ℕ → List ℕ → Numeral
-digits_of v [] = Is v
-digits_of v (x ∷ xs) = cond (leb nought x && leb x nine) (digits_of (v * 10 + (x - nought)) xs) Bad
+unfoldable pub digits_of : ℕ → List ℕ → Option ℕ
+digits_of v [] = Some v
+digits_of v (x ∷ xs) = cond (leb nought x && leb x nine) (digits_of (v * 10 + (x - nought)) xs) None
 
 -- one to four digits, no leading zero except 0 itself
-unfoldable pub numeral_of : List ℕ → Numeral
+unfoldable pub numeral_of : List ℕ → Option ℕ
 unfolding digits_of
-numeral_of f = cond (leb 1 (length f) && leb (length f) 4 && (eqb (length f) 1 || not (eqb (get_or f 0 0) nought))) (digits_of 0 f) Bad
+numeral_of f = cond (leb 1 (length f) && leb (length f) 4 && (eqb (length f) 1 || not (eqb (get_or f 0 0) nought))) (digits_of 0 f) None
 
 -- a number in decimal; the first argument bounds its digits
 unfoldable pub decimal_in : ℕ → ℕ → List ℕ

@@ -1,5 +1,5 @@
 -- 01, "Looks": the trial record, for single moves.
-use Rattle.std.specs.Prelude.{Bool, true, ◌&&◌, not, cond, List, [], ◌∷◌, ℕ, ◌+◌, ◌^◌, leb, ltb, eqb, length, ℤ}
+use Rattle.std.specs.Prelude.{Bool, true, ◌&&◌, cond, List, [], ◌∷◌, ℕ, ◌+◌, ◌^◌, leb, ltb, eqb, length, ℤ}
 use Rattle.std.specs.Int.Bits.{bit_and}
 use Rattle.sets.specs.Sets.{has, flip}
 use Rattle.rules.specs.Limits.{most_states, most_trial}

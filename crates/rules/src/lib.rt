@@ -3,7 +3,6 @@
 
 ghost use Rattle.std.specs.Prelude.{◌≡◌};
 ghost use Rattle.rules.specs.Refusals.{number};
-ghost use Rattle.rules.specs.Requirements.{is_by};
 
 // The limits of a listing and of a trial record.
 pub const MOST_STATES: usize = 64;
@@ -68,25 +67,6 @@ pub struct BitNumber(pub usize);
 pub struct Requirement {
     pub first: u64,
     pub second: u64,
-}
-
-// What a code is judged to do for a requirement: the lowest bit that meets it, or that none does.
-#[derive(Clone, Copy)]
-pub enum Judgement {
-    By(BitNumber),
-    ByNone,
-}
-
-impl Judgement {
-    // Whether a bit meets it.
-    pub fn is_met(self) -> bool
-        ensures { result ≡ is_by self }
-    {
-        match self {
-            Judgement::By(_) => true,
-            Judgement::ByNone => false,
-        }
-    }
 }
 
 // What `MC` or `MO` says: how many states, inputs and outputs, the width, whether the cover keeps the rows that say nothing, and whether it was `MO`: the
@@ -229,62 +209,11 @@ pub struct KissHeads {
     pub lines: usize,
 }
 
-// What a field says as a number.
+// What an `OU` line says: a state, and the outputs that the machine has in it.
 #[derive(Clone, Copy)]
-pub enum Numeral {
-    Is(usize),
-    Bad,
-}
-
-// What a reader of one line answers: what the line says, or the refusal.
-#[derive(Clone, Copy)]
-pub enum HeadLine {
-    Read(Head),
-    Refused(Refusal),
-}
-
-#[derive(Clone, Copy)]
-pub enum RowLine {
-    Read(Row),
-    Refused(Refusal),
-}
-
-#[derive(Clone, Copy)]
-pub enum DichotomyLine {
-    Read(Requirement),
-    Refused(Refusal),
-}
-
-#[derive(Clone, Copy)]
-pub enum OutputsLine {
-    Read(StateNumber, Pattern),
-    Refused(Refusal),
-}
-
-#[derive(Clone, Copy)]
-pub enum EndLine {
-    Read,
-    Refused(Refusal),
-}
-
-// The entries of a flow table's line are read one by one, from the line.
-#[derive(Clone, Copy)]
-pub enum FlowLine {
-    Read,
-    Refused(Refusal),
-}
-
-// The same of the lines of a recorded run: the state that it starts in, and an input vector, input j digit j.
-#[derive(Clone, Copy)]
-pub enum StartLine {
-    Read(StateNumber),
-    Refused(Refusal),
-}
-
-#[derive(Clone, Copy)]
-pub enum VectorLine {
-    Read(u64),
-    Refused(Refusal),
+pub struct StateOutputs {
+    pub state: StateNumber,
+    pub outputs: Pattern,
 }
 
 // What the reader of a whole listing answers; the listing is blank where it is refused.
@@ -341,16 +270,9 @@ pub struct CoverHeads {
     pub rows: usize,
 }
 
-// What one line of a cover does: it goes on, or is refused.
-#[derive(Clone, Copy)]
-pub enum CoverLine {
-    Read(CoverHeads),
-    Refused(Refusal),
-}
-
 // Where a cover does not agree with its listing: the lowest state, and for it the lowest input, the leftmost the highest digit.
 #[derive(Clone, Copy)]
-pub enum Fault {
-    At(StateNumber, usize),
-    Nowhere,
+pub struct Fault {
+    pub state: StateNumber,
+    pub input: usize,
 }

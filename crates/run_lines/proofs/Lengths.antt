@@ -1,4 +1,5 @@
 -- How long a line is by its fields, and how long the first line of a text is at the least.
+use Rattle.std.specs.Prelude.{None}
 use mathlib.Core.Path.{◌≡◌, refl, ap, ◌∙◌}
 use mathlib.Core.Bool.{Bool, true, false, cond, and-false}
 use mathlib.Core.List.{List, [], ◌∷◌, ◌++◌}
@@ -10,7 +11,6 @@ use borrow.Author.Tests.{eqb-true, lt-leb, ltb-true, ltb-false, ne_eqb}
 use Rattle.sets.proofs.Every.{and_first, and_second}
 use Rattle.rules.specs.Text.{lf, space, push, same, split, lines_of, fields_of, field_at, mark_of, numeral_of}
 use Rattle.rules.specs.Replay.{marked}
-use Rattle.rules.specs.declared.Numeral.TheVariants.{Bad}
 use Rattle.rules.proofs.Fields.{Without, none, more}
 use Rattle.read_pieces.proofs.Laws.{First, first_of, split-some}
 use Rattle.read_pieces.proofs.Places.{only-piece}
@@ -48,7 +48,7 @@ marked-long mark l e =
     let two : length (fields_of l) ≡ 2 = eqb-true (length (fields_of l)) 2 (and_first (eqb (length (fields_of l)) 2) (same (mark_of l) mark) e) in
     omega (arith, fields-long space l two, same-long (mark_of l) mark (and_second (eqb (length (fields_of l)) 2) (same (mark_of l) mark) e))
 
-pub numeral-long : (f : List ℕ) → 4 < length f → numeral_of f ≡ Bad
+pub numeral-long : (f : List ℕ) → 4 < length f → numeral_of f ≡ None
 unfolding numeral_of
 numeral-long f h = rw (lt-leb (length f) 4 h, and-false (leb 1 (length f)))
 

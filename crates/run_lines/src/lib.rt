@@ -7,7 +7,7 @@ ghost use Rattle.read_marks.specs.Marks.{two_of};
 
 use read_fields::Places;
 use read_pieces::{field, field_count};
-use rules::{Head, Numeral, Refusal, StartLine, StateNumber, VectorLine};
+use rules::{Head, Refusal, StateNumber};
 
 // Whether a line has two fields, the first of them the mark m.
 fn is_marked(l: &[u8], m: &[u8; 2]) -> bool
@@ -20,27 +20,27 @@ fn is_marked(l: &[u8], m: &[u8; 2]) -> bool
 }
 
 // What an `SS` line says: a state that the machine has.
-pub fn start_line(h: Head, l: &[u8]) -> StartLine
+pub fn start_line(h: Head, l: &[u8]) -> Result<StateNumber, Refusal>
     ensures { result ≡ start_line h l.now }
 {
     if !is_marked(l, b"SS") {
-        return StartLine::Refused(Refusal::BadLine);
+        return Err(Refusal::BadLine);
     }
-    let Numeral::Is(s) = read_fields::numeral_of(field(l, 1)) else {
-        return StartLine::Refused(Refusal::BadLine);
+    let Some(s) = read_fields::numeral_of(field(l, 1)) else {
+        return Err(Refusal::BadLine);
     };
     if h.states <= s {
-        return StartLine::Refused(Refusal::BadLine);
+        return Err(Refusal::BadLine);
     }
-    StartLine::Read(StateNumber(s))
+    Ok(StateNumber(s))
 }
 
 // What an `IN` line says, behind so many others.
-pub fn vector_line(h: Head, done: usize, l: &[u8]) -> VectorLine
+pub fn vector_line(h: Head, done: usize, l: &[u8]) -> Result<u64, Refusal>
     ensures { result ≡ vector_line h done l.now }
 {
     if !is_marked(l, b"IN") {
-        return VectorLine::Refused(Refusal::BadLine);
+        return Err(Refusal::BadLine);
     }
     let Places::Read(x, _) = read_fields::places_in(
         field(l, 1),
@@ -50,10 +50,10 @@ pub fn vector_line(h: Head, done: usize, l: &[u8]) -> VectorLine
         b'1',
         b'1',
     ) else {
-        return VectorLine::Refused(Refusal::BadLine);
+        return Err(Refusal::BadLine);
     };
     if rules::MOST_STEPS <= done {
-        return VectorLine::Refused(Refusal::Limit);
+        return Err(Refusal::Limit);
     }
-    VectorLine::Read(x)
+    Ok(x)
 }

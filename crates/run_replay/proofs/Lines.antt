@@ -1,4 +1,5 @@
 -- A run line by line, as a loop has it: what each line does to what is printed, and to the place.
+use Rattle.std.specs.Prelude.{Result, Ok, Err}
 use mathlib.Core.Path.{◌≡◌, refl, sym, ap, ◌∙◌}
 use mathlib.Core.Bool.{Bool, true, false, ◌&&◌}
 use mathlib.Core.List.{List, [], ◌∷◌}
@@ -19,9 +20,7 @@ use Rattle.rules.specs.declared.Listing.{Listing}
 use Rattle.rules.specs.declared.Pattern.{Pattern}
 use Rattle.rules.specs.declared.Refusal.{Refusal}
 use Rattle.rules.specs.declared.Refusal.TheVariants.{BadLine, Limit, NoNext}
-use Rattle.rules.specs.declared.StartLine.{StartLine}
 use Rattle.rules.specs.declared.StateNumber.{StateNumber}
-use Rattle.rules.specs.declared.VectorLine.{VectorLine}
 use Rattle.rules.proofs.Ways.{chose-first, chose-second}
 use Rattle.read_pieces.proofs.Laws.{Cut, part, split-some}
 use Rattle.write_parts.specs.Parts.{added, added_all}
@@ -71,31 +70,31 @@ both-made t ts w x s code e f g q = rw (f, g, q, e)
 -- ---- what a line does
 
 -- the 10,001st is not read
-pub read-few : (h : Head) (done : ℕ) (l : List ℕ) {x : ℕ} → vector_line h done l ≡ VectorLine.Read x → done < most_steps
+pub read-few : (h : Head) (done : ℕ) (l : List ℕ) {x : ℕ} → vector_line h done l ≡ Ok x → done < most_steps
 unfolding vector_line
 read-few h done l {x} e =
     let k = chose-first (marked (bytes "IN") l && sized most_inputs h.inputs nought one one (field_at l 1)) e (refused-not BadLine) in
     leb-false most_steps done (chose-second (leb most_steps done) k.1 (refused-not Limit)).0
   where
-    refused-not : (r : Refusal) → VectorLine.Refused r ≡ VectorLine.Read x → ⊥
+    refused-not : (r : Refusal) → Err r ≡ Ok x → ⊥
     refused-not r e = let z : ◌≡◌ {A = ℕ} 0 1 = cc in omega arith
 
 -- the reason of a line that is refused
-pub reason-is : (v : VectorLine) {r q : Refusal} → v ≡ VectorLine.Refused r → q ≡ vector_reason v → v ≡ VectorLine.Refused q
+pub reason-is : (v : Result ℕ Refusal) {r q : Refusal} → v ≡ Err r → q ≡ vector_reason v → v ≡ Err q
 unfolding vector_reason
-reason-is v e f = e ∙ ap VectorLine.Refused (sym (f ∙ ap vector_reason e))
+reason-is v e f = e ∙ ap Err (sym (f ∙ ap vector_reason e))
 
-pub start-reason-is : (v : StartLine) {r q : Refusal} → v ≡ StartLine.Refused r → q ≡ start_reason v → v ≡ StartLine.Refused q
+pub start-reason-is : (v : Result StateNumber Refusal) {r q : Refusal} → v ≡ Err r → q ≡ start_reason v → v ≡ Err q
 unfolding start_reason
-start-reason-is v e f = e ∙ ap StartLine.Refused (sym (f ∙ ap start_reason e))
+start-reason-is v e f = e ∙ ap Err (sym (f ∙ ap start_reason e))
 
 module _ (t : Listing) (ts : Terms) (w done s code : ℕ) (rest : List (List ℕ)) where
   -- with what both machines give, by whether a next state is named
   abbrev pub stepBy : Moved → Bool → Course
   stepBy m b = elim b [ true ↦ ends_at NoNext (done + 2) | false ↦ in_front (line_of t w m) (ran_from t ts w (done + 1) m.state m.code rest) ]
 
-  abbrev pub lineBy : VectorLine → Course
-  lineBy v = elim v [ VectorLine.Refused r ↦ ends_at r (done + 2) | VectorLine.Read x ↦ stepBy (moved_by t ts w x s code) (eqb (moved_by t ts w x s code).next 0) ]
+  abbrev pub lineBy : Result ℕ Refusal → Course
+  lineBy v = elim v [ Err r ↦ ends_at r (done + 2) | Ok x ↦ stepBy (moved_by t ts w x s code) (eqb (moved_by t ts w x s code).next 0) ]
 
 pub line-by : (t : Listing) (ts : Terms) (w done s code : ℕ) (l : List ℕ) (rest : List (List ℕ)) → 1 ≤ length rest → ran_from t ts w done s code (l ∷ rest) ≡ lineBy t ts w done s code rest (vector_line t.head done l)
 unfolding ran_from
@@ -126,20 +125,20 @@ module _ (t : Listing) (ts : Terms) (w : ℕ) (run : List ℕ) (at end : ℕ) (h
   rest = lines_of (drop (end + 1) run)
 
   -- the run goes on with this line
-  read_is : end < length run → {v : VectorLine} → vector_line t.head done (part run at end) ≡ v → left ≡ lineBy t ts w done s code rest v
+  read_is : end < length run → {v : Result ℕ Refusal} → vector_line t.head done (part run at end) ≡ v → left ≡ lineBy t ts w done s code rest v
   read_is more e =
       ap (ran_from t ts w done s code) (here.more more) ∙ line-by t ts w done s code (part run at end) rest (split-some lf (drop (end + 1) run)) ∙ ap (lineBy t ts w done s code rest) e
 
-  pub cut-refused : end < length run → {r : Refusal} → vector_line t.head done (part run at end) ≡ VectorLine.Refused r → left ≡ ends_at r (done + 2)
+  pub cut-refused : end < length run → {r : Refusal} → vector_line t.head done (part run at end) ≡ Err r → left ≡ ends_at r (done + 2)
   cut-refused more e = read_is more e
 
-  pub cut-ends : end < length run → {x : ℕ} → vector_line t.head done (part run at end) ≡ VectorLine.Read x → {m : Moved} → m ≡ moved_by t ts w x s code → m.next ≡ 0 → left ≡ ends_at NoNext (done + 2)
+  pub cut-ends : end < length run → {x : ℕ} → vector_line t.head done (part run at end) ≡ Ok x → {m : Moved} → m ≡ moved_by t ts w x s code → m.next ≡ 0 → left ≡ ends_at NoNext (done + 2)
   cut-ends more {x} e {m} q z =
       read_is more e
       ∙ ap (λ (m : Moved). stepBy t ts w done s code rest m (eqb m.next 0)) (sym q)
       ∙ ap (stepBy t ts w done s code rest m) (eq-eqb m.next 0 z)
 
-  pub cut-steps : end < length run → {x : ℕ} → vector_line t.head done (part run at end) ≡ VectorLine.Read x → {m : Moved} → m ≡ moved_by t ts w x s code → (m.next ≡ 0 → ⊥)
+  pub cut-steps : end < length run → {x : ℕ} → vector_line t.head done (part run at end) ≡ Ok x → {m : Moved} → m ≡ moved_by t ts w x s code → (m.next ≡ 0 → ⊥)
       → left ≡ in_front (line_of t w m) (ran_from t ts w (done + 1) m.state m.code rest)
   cut-steps more {x} e {m} q o =
       read_is more e
@@ -158,8 +157,8 @@ module _ (t : Listing) (ts : Terms) (w : ℕ) (run : List ℕ) (at end : ℕ) (h
 -- ---- the first line
 
 module _ (t : Listing) (ts : Terms) (bits : List ℕ) where
-  abbrev pub firstBy : List (List ℕ) → StartLine → Course
-  firstBy rest v = elim v [ StartLine.Refused r ↦ ends_at r 1 | StartLine.Read s ↦ ran_from t ts (length bits) 0 s.0 (code_for bits s.0) rest ]
+  abbrev pub firstBy : List (List ℕ) → Result StateNumber Refusal → Course
+  firstBy rest v = elim v [ Err r ↦ ends_at r 1 | Ok s ↦ ran_from t ts (length bits) 0 s.0 (code_for bits s.0) rest ]
 
   pub first_by : (l : List ℕ) (rest : List (List ℕ)) → 1 ≤ length rest → ran_first t ts bits (l ∷ rest) ≡ firstBy rest (start_line t.head l)
   unfolding ran_first
@@ -174,15 +173,15 @@ module _ (t : Listing) (ts : Terms) (bits run : List ℕ) (end : ℕ) (here : Cu
   pub whole-missing : length run ≤ end → ran_first t ts bits (lines_of run) ≡ ends_at BadLine 1
   whole-missing none = ap (ran_first t ts bits) (here.last none) ∙ first-missing t ts bits (part run 0 end)
 
-  whole_by : end < length run → {v : StartLine} → start_line t.head (part run 0 end) ≡ v → ran_first t ts bits (lines_of run) ≡ firstBy t ts bits (lines_of (drop (end + 1) run)) v
+  whole_by : end < length run → {v : Result StateNumber Refusal} → start_line t.head (part run 0 end) ≡ v → ran_first t ts bits (lines_of run) ≡ firstBy t ts bits (lines_of (drop (end + 1) run)) v
   whole_by more e =
       ap (ran_first t ts bits) (here.more more) ∙ first_by t ts bits (part run 0 end) (lines_of (drop (end + 1) run)) (split-some lf (drop (end + 1) run)) ∙ ap (firstBy t ts bits (lines_of (drop (end + 1) run))) e
 
-  pub whole-refused : end < length run → {r : Refusal} → start_line t.head (part run 0 end) ≡ StartLine.Refused r → ran_first t ts bits (lines_of run) ≡ ends_at r 1
+  pub whole-refused : end < length run → {r : Refusal} → start_line t.head (part run 0 end) ≡ Err r → ran_first t ts bits (lines_of run) ≡ ends_at r 1
   whole-refused more e = whole_by more e
 
   -- from what stands behind it
-  pub whole-read : end < length run → {s : StateNumber} → start_line t.head (part run 0 end) ≡ StartLine.Read s → {code : ℕ} → code ≡ code_for bits s.0
+  pub whole-read : end < length run → {s : StateNumber} → start_line t.head (part run 0 end) ≡ Ok s → {code : ℕ} → code ≡ code_for bits s.0
       → ran_first t ts bits (lines_of run) ≡ ran_from t ts (length bits) 0 s.0 code (lines_of (part run (end + 1) (length run)))
   whole-read more {s} e {code} q =
       whole_by more e

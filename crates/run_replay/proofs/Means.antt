@@ -1,5 +1,8 @@
 -- What a piece of a run prints is what 02 says of the run: both machines by the rows of the listing and by the rows that the cover prints, against the
 -- meaning of the listing and the lines of the cover's text.
+use Rattle.rules.specs.declared.StateNumber.{StateNumber}
+use Rattle.rules.specs.declared.Refusal.{Refusal}
+use Rattle.std.specs.Prelude.{Result, Ok, Err}
 use mathlib.Core.Path.{◌≡◌, refl, sym, ap, ap₂, ◌∙◌}
 use mathlib.Core.Bool.{Bool, true, false}
 use mathlib.Core.List.{List, [], ◌∷◌, ◌++◌}
@@ -17,8 +20,6 @@ use Rattle.rules.specs.Meaning.{next_means}
 use Rattle.rules.specs.Replay.{start_line, vector_line, state_in, state_after, outputs_text, code_after, Shown, Run, steps, stopped, shown, run_end, run_from, run_of, step_line, run_lines}
 use Rattle.rules.specs.declared.Listing.{Listing}
 use Rattle.rules.specs.declared.Refusal.TheVariants.{NoNext}
-use Rattle.rules.specs.declared.StartLine.{StartLine}
-use Rattle.rules.specs.declared.VectorLine.{VectorLine}
 use Rattle.rules.proofs.Replay.{start-below}
 use Rattle.run_symbolic.proofs.Means.{told-next, told-outputs}
 use Rattle.run_encoded.specs.Terms.{terms_for, code_for}
@@ -101,14 +102,14 @@ module _ (t : Listing) (bits : List ℕ) (few-states : t.head.states ≤ most_st
           ∙ ap₂ (λ (u : ℕ) (c : List ℕ). run_lines (run_from t ls (done + 1) u c (k ∷ ks))) (moved-state x s code) (moved-code x s code))
           ∙ sym (steps-lines (shown t ls x s (vector w code)) (run_from t ls (done + 1) (state_after t x s) (code_after ls t.head x (vector w code)) (k ∷ ks)))
 
-      read : VectorLine → Course
-      read v = elim v [ VectorLine.Refused r ↦ ends_at r (done + 2) | VectorLine.Read x ↦ made x (eqb (both x s code).next 0) ]
+      read : Result ℕ Refusal → Course
+      read v = elim v [ Err r ↦ ends_at r (done + 2) | Ok x ↦ made x (eqb (both x s code).next 0) ]
 
-      go : (v : VectorLine) → ((u c : ℕ) → (ran_from t terms w (done + 1) u c (k ∷ ks)).0 ≡ run_lines (run_from t ls (done + 1) u (vector w c) (k ∷ ks)))
+      go : (v : Result ℕ Refusal) → ((u c : ℕ) → (ran_from t terms w (done + 1) u c (k ∷ ks)).0 ≡ run_lines (run_from t ls (done + 1) u (vector w c) (k ∷ ks)))
           → (read v).0
-          ≡ run_lines (elim v [ VectorLine.Refused r ↦ stopped r (done + 2) | VectorLine.Read x ↦ after x (eqb (next_means t x s) 0) ])
-      go (VectorLine.Refused r) later = refl
-      go (VectorLine.Read x) later = ap (λ (n : ℕ). (made x (eqb n 0)).0) (moved-next x s code) ∙ by_name x (eqb (next_means t x s) 0) later
+          ≡ run_lines (elim v [ Err r ↦ stopped r (done + 2) | Ok x ↦ after x (eqb (next_means t x s) 0) ])
+      go (Err r) later = refl
+      go (Ok x) later = ap (λ (n : ℕ). (made x (eqb n 0)).0) (moved-next x s code) ∙ by_name x (eqb (next_means t x s) 0) later
 
   -- ---- from the first line on
 
@@ -118,14 +119,14 @@ module _ (t : Listing) (bits : List ℕ) (few-states : t.head.states ≤ most_st
   first-is (l ∷ []) = refl
   first-is (l ∷ (k ∷ ks)) = go (start_line t.head l) refl
     where
-      read : StartLine → Course
-      read v = elim v [ StartLine.Refused r ↦ ends_at r 1 | StartLine.Read s ↦ ran_from t terms w 0 s.0 (code_for bits s.0) (k ∷ ks) ]
+      read : Result StateNumber Refusal → Course
+      read v = elim v [ Err r ↦ ends_at r 1 | Ok s ↦ ran_from t terms w 0 s.0 (code_for bits s.0) (k ∷ ks) ]
 
-      go : (v : StartLine) → start_line t.head l ≡ v
+      go : (v : Result StateNumber Refusal) → start_line t.head l ≡ v
           → (read v).0
-          ≡ run_lines (elim v [ StartLine.Refused r ↦ stopped r 1 | StartLine.Read s ↦ run_from t ls 0 s.0 (code_of bits s.0) (k ∷ ks) ])
-      go (StartLine.Refused r) e = refl
-      go (StartLine.Read s) e =
+          ≡ run_lines (elim v [ Err r ↦ stopped r 1 | Ok s ↦ run_from t ls 0 s.0 (code_of bits s.0) (k ∷ ks) ])
+      go (Err r) e = refl
+      go (Ok s) e =
           from_is 0 s.0 (code_for bits s.0) (k ∷ ks)
           ∙ ap (λ (c : List ℕ). run_lines (run_from t ls 0 s.0 c (k ∷ ks)))
           (ap (vector w) (code-for bits s.0 few_bits (omega (arith, start-below t.head l e, few-states))) ∙ state-code bits s.0)

@@ -1,4 +1,7 @@
 -- A run in pieces of whole lines, each from the place that the one before it came to: one behind the other they print what the whole run prints.
+use Rattle.rules.specs.declared.StateNumber.{StateNumber}
+use Rattle.rules.specs.declared.Refusal.{Refusal}
+use Rattle.std.specs.Prelude.{Result, Ok, Err}
 use mathlib.Core.Path.{◌≡◌, refl, sym, ap, ◌∙◌}
 use mathlib.Core.Bool.{Bool, true, false, cond}
 use mathlib.Core.List.{List, [], ◌∷◌, ◌++◌, append_assoc}
@@ -11,8 +14,6 @@ use Rattle.rules.specs.Text.{lf, push, split, lines_of}
 use Rattle.rules.specs.Replay.{start_line, vector_line}
 use Rattle.rules.specs.declared.Listing.{Listing}
 use Rattle.rules.specs.declared.Refusal.TheVariants.{NoNext}
-use Rattle.rules.specs.declared.StartLine.{StartLine}
-use Rattle.rules.specs.declared.VectorLine.{VectorLine}
 use Rattle.read_pieces.proofs.Laws.{split-some}
 use Rattle.run_encoded.specs.Terms.{code_for}
 use Rattle.run_encoded.specs.declared.Terms.{Terms}
@@ -77,10 +78,10 @@ module _ (t : Listing) (ts : Terms) (bits : List ℕ) where
       w : ℕ
       w = length bits
 
-      go : (v : VectorLine) → ((u c : ℕ) → ran_from t ts w (done + 1) u c (ks ++ (l ∷ ls)) ≡ then (ran_from t ts w (done + 1) u c (ks ++ ([] ∷ []))) (l ∷ ls))
+      go : (v : Result ℕ Refusal) → ((u c : ℕ) → ran_from t ts w (done + 1) u c (ks ++ (l ∷ ls)) ≡ then (ran_from t ts w (done + 1) u c (ks ++ ([] ∷ []))) (l ∷ ls))
           → lineBy t ts w done s code (ks ++ (l ∷ ls)) v ≡ then (lineBy t ts w done s code (ks ++ ([] ∷ [])) v) (l ∷ ls)
-      go (VectorLine.Refused r) later = refl
-      go (VectorLine.Read x) later = by_name (eqb (moved_by t ts w x s code).next 0)
+      go (Err r) later = refl
+      go (Ok x) later = by_name (eqb (moved_by t ts w x s code).next 0)
         where
           by_name : (b : Bool)
               → elim b [ true ↦ ends_at NoNext (done + 2) | false ↦ in_front (line_of t w (moved_by t ts w x s code)) (ran_from t ts w (done + 1) (moved_by t ts w x s code).state (moved_by t ts w x s code).code (ks ++ (l ∷ ls))) ]
@@ -97,9 +98,9 @@ module _ (t : Listing) (ts : Terms) (bits : List ℕ) where
       ∙ go (start_line t.head k)
       ∙ sym (ap (λ (g : Course). then g (l ∷ ls)) (first_by t ts bits k (ks ++ ([] ∷ [])) (more-some ks [] [])))
     where
-      go : (v : StartLine) → firstBy t ts bits (ks ++ (l ∷ ls)) v ≡ then (firstBy t ts bits (ks ++ ([] ∷ [])) v) (l ∷ ls)
-      go (StartLine.Refused r) = refl
-      go (StartLine.Read s) = from-behind 0 s.0 (code_for bits s.0) ks l ls
+      go : (v : Result StateNumber Refusal) → firstBy t ts bits (ks ++ (l ∷ ls)) v ≡ then (firstBy t ts bits (ks ++ ([] ∷ [])) v) (l ∷ ls)
+      go (Err r) = refl
+      go (Ok s) = from-behind 0 s.0 (code_for bits s.0) ks l ls
 
   -- from any place: what some whole lines do, and then what the rest does from the place that they come to
   pub lines-behind : (p : Place) (ks ls : List (List ℕ)) → 1 ≤ length ks → 1 ≤ length ls → ran_by t ts bits p (ks ++ ls) ≡ then (ran_by t ts bits p (ks ++ ([] ∷ []))) ls

@@ -1,4 +1,6 @@
 -- The lines that pieces of a run print: each is a whole line and short; how long they are all together; and those of a whole run are the text of its replay.
+use Rattle.rules.specs.declared.StateNumber.{StateNumber}
+use Rattle.std.specs.Prelude.{Result, Ok, Err}
 use mathlib.Core.Path.{◌≡◌, refl, ap}
 use mathlib.Core.Bool.{Bool, true, false, ◌&&◌, cond}
 use mathlib.Core.List.{List, [], ◌∷◌, ◌++◌}
@@ -18,8 +20,6 @@ use Rattle.rules.specs.Replay.{start_line, vector_line, state_in, replay}
 use Rattle.rules.specs.declared.Listing.{Listing}
 use Rattle.rules.specs.declared.Refusal.{Refusal}
 use Rattle.rules.specs.declared.Refusal.TheVariants.{BadLine, NoNext}
-use Rattle.rules.specs.declared.StartLine.{StartLine}
-use Rattle.rules.specs.declared.VectorLine.{VectorLine}
 use Rattle.rules.proofs.Ended.{Pieces, no-piece, piece}
 use Rattle.rules.proofs.Parts.{AllFit, fit_none, fit-more}
 use Rattle.rules.proofs.ReportLines.{refused-ended}
@@ -76,16 +76,16 @@ module _ (t : Listing) (ts : Terms) (bits : List ℕ) where
       after x true later = ends-whole NoNext (done + 2)
       after x false later = step-whole t w (moved_by t ts w x s code) (ran_from t ts w (done + 1) (moved_by t ts w x s code).state (moved_by t ts w x s code).code (k ∷ ks)) (later (moved_by t ts w x s code).state (moved_by t ts w x s code).code)
 
-      go : (v : VectorLine) → ((u c : ℕ) → Whole (ran_from t ts w (done + 1) u c (k ∷ ks))) → Whole
+      go : (v : Result ℕ Refusal) → ((u c : ℕ) → Whole (ran_from t ts w (done + 1) u c (k ∷ ks))) → Whole
           (elim v [
-            | VectorLine.Refused r ↦ ends_at r (done + 2)
-            | VectorLine.Read x ↦ elim (eqb (moved_by t ts w x s code).next 0) [
+            | Err r ↦ ends_at r (done + 2)
+            | Ok x ↦ elim (eqb (moved_by t ts w x s code).next 0) [
               | true ↦ ends_at NoNext (done + 2)
               | false ↦ in_front (line_of t w (moved_by t ts w x s code)) (ran_from t ts w (done + 1) (moved_by t ts w x s code).state (moved_by t ts w x s code).code (k ∷ ks))
             ]
           ])
-      go (VectorLine.Refused r) later = ends-whole r (done + 2)
-      go (VectorLine.Read x) later = after x (eqb (moved_by t ts w x s code).next 0) later
+      go (Err r) later = ends-whole r (done + 2)
+      go (Ok x) later = after x (eqb (moved_by t ts w x s code).next 0) later
 
   first-whole : (lines : List (List ℕ)) → Whole (ran_first t ts bits lines)
   unfolding ran_first
@@ -93,9 +93,9 @@ module _ (t : Listing) (ts : Terms) (bits : List ℕ) where
   first-whole (l ∷ []) = ends-whole BadLine 1
   first-whole (l ∷ (k ∷ ks)) = go (start_line t.head l)
     where
-      go : (v : StartLine) → Whole (elim v [ StartLine.Refused r ↦ ends_at r 1 | StartLine.Read s ↦ ran_from t ts (length bits) 0 s.0 (code_for bits s.0) (k ∷ ks) ])
-      go (StartLine.Refused r) = ends-whole r 1
-      go (StartLine.Read s) = from-whole (length bits) 0 s.0 (code_for bits s.0) (k ∷ ks)
+      go : (v : Result StateNumber Refusal) → Whole (elim v [ Err r ↦ ends_at r 1 | Ok s ↦ ran_from t ts (length bits) 0 s.0 (code_for bits s.0) (k ∷ ks) ])
+      go (Err r) = ends-whole r 1
+      go (Ok s) = from-whole (length bits) 0 s.0 (code_for bits s.0) (k ∷ ks)
 
   pub all_whole : (p : Place) (lines : List (List ℕ)) → Pieces (ran_by t ts bits p lines).0
   unfolding ran_by
@@ -201,12 +201,12 @@ module _ (t : Listing) (ts : Terms) (bits : List ℕ) where
           (step-short t ts w x s code (length (k ∷ ks) + 1) (longest-step * (most_steps - (done + 1)) + 12) (ran_from t ts w (done + 1) (moved_by t ts w x s code).state (moved_by t ts w x s code).code (k ∷ ks))
           (later (moved_by t ts w x s code).state (moved_by t ts w x s code).code (omega arith)))
 
-      go : (v : VectorLine) → vector_line t.head done l ≡ v
+      go : (v : Result ℕ Refusal) → vector_line t.head done l ≡ v
           → ((u c : ℕ) → done + 1 ≤ most_steps → Short (length (k ∷ ks) + 1) (longest-step * (most_steps - (done + 1)) + 12) (ran_from t ts w (done + 1) u c (k ∷ ks)))
           → Short (length (l ∷ (k ∷ ks)) + 1) (most + 12)
-          (elim v [ VectorLine.Refused r ↦ ends_at r (done + 2) | VectorLine.Read x ↦ made x (eqb (moved_by t ts w x s code).next 0) ])
-      go (VectorLine.Refused r) e later = ends-short (length (l ∷ (k ∷ ks))) most r (done + 2) (omega arith)
-      go (VectorLine.Read x) e later = by_name x (eqb (moved_by t ts w x s code).next 0) (read-few t.head done l e) later
+          (elim v [ Err r ↦ ends_at r (done + 2) | Ok x ↦ made x (eqb (moved_by t ts w x s code).next 0) ])
+      go (Err r) e later = ends-short (length (l ∷ (k ∷ ks))) most r (done + 2) (omega arith)
+      go (Ok x) e later = by_name x (eqb (moved_by t ts w x s code).next 0) (read-few t.head done l e) later
 
   first_short : (lines : List (List ℕ)) → Short (length lines + 1) longest_run (ran_first t ts bits lines)
   unfolding ran_first
@@ -214,10 +214,10 @@ module _ (t : Listing) (ts : Terms) (bits : List ℕ) where
   first_short (l ∷ []) = ends-short 1 1040000 BadLine 1 (omega arith)
   first_short (l ∷ (k ∷ ks)) = go (start_line t.head l)
     where
-      go : (v : StartLine) → Short (length (l ∷ (k ∷ ks)) + 1) longest_run
-          (elim v [ StartLine.Refused r ↦ ends_at r 1 | StartLine.Read s ↦ ran_from t ts (length bits) 0 s.0 (code_for bits s.0) (k ∷ ks) ])
-      go (StartLine.Refused r) = ends-short (length (l ∷ (k ∷ ks))) 1040000 r 1 (omega arith)
-      go (StartLine.Read s) = wider (omega arith) (omega arith) (from-short (length bits) 0 s.0 (code_for bits s.0) (k ∷ ks) (omega arith))
+      go : (v : Result StateNumber Refusal) → Short (length (l ∷ (k ∷ ks)) + 1) longest_run
+          (elim v [ Err r ↦ ends_at r 1 | Ok s ↦ ran_from t ts (length bits) 0 s.0 (code_for bits s.0) (k ∷ ks) ])
+      go (Err r) = ends-short (length (l ∷ (k ∷ ks))) 1040000 r 1 (omega arith)
+      go (Ok s) = wider (omega arith) (omega arith) (from-short (length bits) 0 s.0 (code_for bits s.0) (k ∷ ks) (omega arith))
 
   pub all_short : (p : Place) → Early p → (lines : List (List ℕ)) → Short (length lines + 1) longest_run (ran_by t ts bits p lines)
   unfolding ran_by

@@ -1,12 +1,11 @@
 -- Both machines of a listing, a step of both as code has it, and why a line is refused.
-use Rattle.std.specs.Prelude.{List, ℕ, take}
+use Rattle.rules.specs.declared.StateNumber.{StateNumber}
+use Rattle.std.specs.Prelude.{List, ℕ, take, Result, Ok, Err}
 use Rattle.rules.specs.Listing.{all_rows}
 use Rattle.rules.specs.Replay.{state_in}
 use Rattle.rules.specs.declared.Listing.{Listing}
 use Rattle.rules.specs.declared.Refusal.{Refusal}
 use Rattle.rules.specs.declared.Refusal.TheVariants.{BadLine}
-use Rattle.rules.specs.declared.StartLine.{StartLine}
-use Rattle.rules.specs.declared.VectorLine.{VectorLine}
 use Rattle.run_symbolic.specs.Told.{untold, told_by, outputs_told}
 use Rattle.run_encoded.specs.Terms.{terms_for, code_by}
 use Rattle.run_encoded.specs.declared.Terms.{Terms}
@@ -21,13 +20,13 @@ machines_of t width bits = record { listing = t; width = width; bits = bits; ter
 
 -- ---- why a line is refused
 
-unfoldable pub start_reason : StartLine → Refusal
-start_reason (StartLine.Refused r) = r
-start_reason (StartLine.Read s) = BadLine
+unfoldable pub start_reason : Result StateNumber Refusal → Refusal
+start_reason (Err r) = r
+start_reason (Ok s) = BadLine
 
-unfoldable pub vector_reason : VectorLine → Refusal
-vector_reason (VectorLine.Refused r) = r
-vector_reason (VectorLine.Read x) = BadLine
+unfoldable pub vector_reason : Result ℕ Refusal → Refusal
+vector_reason (Err r) = r
+vector_reason (Ok x) = BadLine
 
 -- ---- a step of both
 

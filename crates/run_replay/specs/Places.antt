@@ -1,13 +1,11 @@
 -- What a piece of a run does, from a place in the run on: the lines that it prints, and the place that it comes to.
-use Rattle.std.specs.Prelude.{true, false, List, [], ◌∷◌, ◌++◌, ℕ, ◌+◌, eqb, length, take}
+use Rattle.std.specs.Prelude.{true, false, List, [], ◌∷◌, ◌++◌, ℕ, ◌+◌, eqb, length, take, Ok, Err}
 use Rattle.rules.specs.Text.{split, lines_of}
 use Rattle.rules.specs.Answers.{refuses, printed}
 use Rattle.rules.specs.Replay.{start_line, vector_line}
 use Rattle.rules.specs.declared.Listing.{Listing}
 use Rattle.rules.specs.declared.Refusal.{Refusal}
 use Rattle.rules.specs.declared.Refusal.TheVariants.{BadLine, NoNext}
-use Rattle.rules.specs.declared.StartLine.{StartLine}
-use Rattle.rules.specs.declared.VectorLine.{VectorLine}
 use Rattle.write_parts.specs.Parts.{added_all}
 use Rattle.write_parts.specs.declared.Part.{Part}
 use Rattle.run_encoded.specs.Terms.{code_for}
@@ -49,8 +47,8 @@ ran_from t ts w done s code [] = ([], Place.Behind done s code)
 ran_from t ts w done s code (l ∷ []) = ran_end done s code l
 ran_from t ts w done s code (l ∷ (k ∷ ks)) =
     elim (vector_line t.head done l) [
-      | VectorLine.Refused r ↦ ends_at r (done + 2)
-      | VectorLine.Read x ↦ elim (eqb (moved_by t ts w x s code).next 0) [
+      | Err r ↦ ends_at r (done + 2)
+      | Ok x ↦ elim (eqb (moved_by t ts w x s code).next 0) [
         | true ↦ ends_at NoNext (done + 2)
         | false ↦ in_front (line_of t w (moved_by t ts w x s code)) (ran_from t ts w (done + 1) (moved_by t ts w x s code).state (moved_by t ts w x s code).code (k ∷ ks))
       ]
@@ -63,8 +61,8 @@ ran_first t ts bits [] = ends_at BadLine 1
 ran_first t ts bits (l ∷ []) = ends_at BadLine 1
 ran_first t ts bits (l ∷ (k ∷ ks)) =
     elim (start_line t.head l) [
-      | StartLine.Refused r ↦ ends_at r 1
-      | StartLine.Read s ↦ ran_from t ts (length bits) 0 s.0 (code_for bits s.0) (k ∷ ks)
+      | Err r ↦ ends_at r 1
+      | Ok s ↦ ran_from t ts (length bits) 0 s.0 (code_for bits s.0) (k ∷ ks)
     ]
 
 -- from any place on

@@ -8,7 +8,7 @@ ghost use Rattle.run_replay.specs.Moves.{machines_of, start_reason, vector_reaso
 ghost use Rattle.run_replay.specs.Places.{ends_at, ran_from, ran_first, ran_by, course_of, ran_on};
 
 use read_pieces::cut;
-use rules::{Listing, Pattern, Refusal, StartLine, VectorLine};
+use rules::{Listing, Pattern, Refusal, StateNumber};
 use run_encoded::Terms;
 use write_parts::Part;
 
@@ -61,21 +61,21 @@ pub fn machines_of(t: Listing, width: usize, bits: [u64; rules::MOST_BITS]) -> M
 }
 
 // Why a line is refused; 1 for one that was read.
-fn start_reason(got: StartLine) -> Refusal
+fn start_reason(got: Result<StateNumber, Refusal>) -> Refusal
     ensures { result ≡ start_reason got }
 {
     match got {
-        StartLine::Refused(r) => r,
-        StartLine::Read(_) => Refusal::BadLine,
+        Err(r) => r,
+        Ok(_) => Refusal::BadLine,
     }
 }
 
-fn vector_reason(got: VectorLine) -> Refusal
+fn vector_reason(got: Result<u64, Refusal>) -> Refusal
     ensures { result ≡ vector_reason got }
 {
     match got {
-        VectorLine::Refused(r) => r,
-        VectorLine::Read(_) => Refusal::BadLine,
+        Err(r) => r,
+        Ok(_) => Refusal::BadLine,
     }
 }
 
@@ -128,7 +128,7 @@ fn add_steps(
     let mut end = cut(run, 0, b'\n');
     while end < run.len() {
         let got = run_lines::vector_line(t.head, done as usize, &run[at..end]);
-        let VectorLine::Read(x) = got else {
+        let Ok(x) = got else {
             return add_end(out, to, vector_reason(got), done as usize + 2);
         };
         let m = step_both(t, terms, width, x, s, code);
@@ -158,7 +158,7 @@ fn add_first(out: &mut [u8], part: Part, t: Listing, terms: Terms, bits: &[u64],
         return add_end(out, part, Refusal::BadLine, 1);
     }
     let got = run_lines::start_line(t.head, &run[0..end]);
-    let StartLine::Read(s) = got else {
+    let Ok(s) = got else {
         return add_end(out, part, start_reason(got), 1);
     };
     let start = s.0;

@@ -1,4 +1,5 @@
 -- The lines of requirements by their judgements, as the walk that writes them meets them, and that they are the report's.
+use Rattle.std.specs.Prelude.{Option, Some, None}
 use mathlib.Core.Path.{◌≡◌, refl, sym, ap, ap₂, ◌∙◌}
 use mathlib.Core.Bool.{not}
 use mathlib.Core.List.{List, [], ◌∷◌, ◌++◌, map}
@@ -12,8 +13,6 @@ use Rattle.rules.specs.Code.{unmet_from}
 use Rattle.rules.specs.Report.{met_line, unmet_line, joined_lines, met_lines}
 use Rattle.rules.specs.declared.Requirement.{Requirement}
 use Rattle.rules.specs.declared.BitNumber.{BitNumber}
-use Rattle.rules.specs.declared.Judgement.{Judgement}
-use Rattle.rules.specs.declared.Judgement.TheVariants.{By, ByNone}
 use Rattle.rules.proofs.Judged.{met-judged, unmet-judged}
 use Rattle.rules.proofs.Unmet.{listed-met, listed-unmet}
 use Rattle.rules.proofs.Good.{AllGood}
@@ -29,28 +28,28 @@ use Rattle.write_report.specs.declared.Listed.{Listed}
 
 -- ---- the line of one, by what is known of the list and of the judgement
 
-module _ (l : Listed) (k : ℕ) (j : Judgement) where
-  pub met-line : (b : BitNumber) → l ≡ Listed.Met → j ≡ By b → met_line (record { 0 = k }) b ≡ line_for l k j
+module _ (l : Listed) (k : ℕ) (j : Option BitNumber) where
+  pub met-line : (b : BitNumber) → l ≡ Listed.Met → j ≡ Some b → met_line (record { 0 = k }) b ≡ line_for l k j
   unfolding line_for
-  met-line b h e = sym (ap₂ (λ (x : Listed) (y : Judgement). line_for x k y) h e)
+  met-line b h e = sym (ap₂ (λ (x : Listed) (y : Option BitNumber). line_for x k y) h e)
 
-  pub no-unmet-line : (b : BitNumber) → l ≡ Listed.Unmet → j ≡ By b → [] ≡ line_for l k j
+  pub no-unmet-line : (b : BitNumber) → l ≡ Listed.Unmet → j ≡ Some b → [] ≡ line_for l k j
   unfolding line_for
-  no-unmet-line b h e = sym (ap₂ (λ (x : Listed) (y : Judgement). line_for x k y) h e)
+  no-unmet-line b h e = sym (ap₂ (λ (x : Listed) (y : Option BitNumber). line_for x k y) h e)
 
-  pub no-met-line : l ≡ Listed.Met → j ≡ ByNone → [] ≡ line_for l k j
+  pub no-met-line : l ≡ Listed.Met → j ≡ None → [] ≡ line_for l k j
   unfolding line_for
-  no-met-line h e = sym (ap₂ (λ (x : Listed) (y : Judgement). line_for x k y) h e)
+  no-met-line h e = sym (ap₂ (λ (x : Listed) (y : Option BitNumber). line_for x k y) h e)
 
-  pub unmet-line : l ≡ Listed.Unmet → j ≡ ByNone → unmet_line (record { 0 = k }) ≡ line_for l k j
+  pub unmet-line : l ≡ Listed.Unmet → j ≡ None → unmet_line (record { 0 = k }) ≡ line_for l k j
   unfolding line_for
-  unmet-line h e = sym (ap₂ (λ (x : Listed) (y : Judgement). line_for x k y) h e)
+  unmet-line h e = sym (ap₂ (λ (x : Listed) (y : Option BitNumber). line_for x k y) h e)
 
 -- one that is not missed has no line among those that are not met
-pub none-missed : (k : ℕ) (j : Judgement) → digit (not (is_by j)) ≡ 0 → line_for Listed.Unmet k j ≡ []
+pub none-missed : (k : ℕ) (j : Option BitNumber) → digit (not (is_by j)) ≡ 0 → line_for Listed.Unmet k j ≡ []
 unfolding line_for is_by
-none-missed k (By b) e = refl
-none-missed k ByNone e = absurd (omega arith)
+none-missed k (Some b) e = refl
+none-missed k None e = absurd (omega arith)
 
 -- ---- one line, and those behind it
 
@@ -91,14 +90,14 @@ unfolding lines_of met_lines joined_lines line_for
 mets-are k bits [] = refl
 mets-are k bits (r ∷ rs) = go (judgement 64 bits r) refl (mets-are (suc k) bits rs)
   where
-    go : (j : Judgement) → judgement 64 bits r ≡ j → text Listed.Met (suc k) bits rs ≡ joined_lines (met_lines (suc k) 64 bits rs)
+    go : (j : Option BitNumber) → judgement 64 bits r ≡ j → text Listed.Met (suc k) bits rs ≡ joined_lines (met_lines (suc k) 64 bits rs)
         → line_for Listed.Met k (judgement 64 bits r) ++ text Listed.Met (suc k) bits rs ≡ joined_lines (met_lines k 64 bits (r ∷ rs))
-    go (By b) e more =
-        ap (λ (j : Judgement). line_for Listed.Met k j ++ text Listed.Met (suc k) bits rs) e
+    go (Some b) e more =
+        ap (λ (j : Option BitNumber). line_for Listed.Met k j ++ text Listed.Met (suc k) bits rs) e
         ∙ ap (λ (t : List ℕ). met_line (record { 0 = k }) b ++ t) more
         ∙ sym (ap joined_lines (lines-by k 64 bits r rs b e))
-    go ByNone e more =
-        ap (λ (j : Judgement). line_for Listed.Met k j ++ text Listed.Met (suc k) bits rs) e ∙ more ∙ sym (ap joined_lines (lines_none k 64 bits r rs e))
+    go None e more =
+        ap (λ (j : Option BitNumber). line_for Listed.Met k j ++ text Listed.Met (suc k) bits rs) e ∙ more ∙ sym (ap joined_lines (lines_none k 64 bits r rs e))
 
 -- a line for each of the requirements numbered
 abbrev unmet_lines : List ℕ → List (List ℕ)
@@ -109,14 +108,14 @@ unfolding lines_of unmet_from joined_lines line_for
 unmets-are k bits [] = refl
 unmets-are k bits (r ∷ rs) = go (judgement 64 bits r) refl (unmets-are (suc k) bits rs)
   where
-    go : (j : Judgement) → judgement 64 bits r ≡ j → text Listed.Unmet (suc k) bits rs ≡ joined_lines (unmet_lines (unmet_from (suc k) 64 bits rs))
+    go : (j : Option BitNumber) → judgement 64 bits r ≡ j → text Listed.Unmet (suc k) bits rs ≡ joined_lines (unmet_lines (unmet_from (suc k) 64 bits rs))
         → line_for Listed.Unmet k (judgement 64 bits r) ++ text Listed.Unmet (suc k) bits rs ≡ joined_lines (unmet_lines (unmet_from k 64 bits (r ∷ rs)))
-    go (By b) e more =
-        ap (λ (j : Judgement). line_for Listed.Unmet k j ++ text Listed.Unmet (suc k) bits rs) e
+    go (Some b) e more =
+        ap (λ (j : Option BitNumber). line_for Listed.Unmet k j ++ text Listed.Unmet (suc k) bits rs) e
         ∙ more
         ∙ sym (ap (λ (ns : List ℕ). joined_lines (unmet_lines ns)) (listed-met k 64 bits r rs (met-judged 64 bits r b e)))
-    go ByNone e more =
-        ap (λ (j : Judgement). line_for Listed.Unmet k j ++ text Listed.Unmet (suc k) bits rs) e
+    go None e more =
+        ap (λ (j : Option BitNumber). line_for Listed.Unmet k j ++ text Listed.Unmet (suc k) bits rs) e
         ∙ ap (λ (t : List ℕ). unmet_line (record { 0 = k }) ++ t) more
         ∙ sym (ap (λ (ns : List ℕ). joined_lines (unmet_lines ns)) (listed-unmet k 64 bits r rs (unmet-judged 64 bits r e)))
 
@@ -130,7 +129,7 @@ mets-wide n few k bits (r ∷ rs) g = go (judgement n bits r) refl (mets-wide n 
     wide : judgement 64 bits r ≡ judgement n bits r
     wide = judged-wide n few bits r g.0
 
-    go : (j : Judgement) → judgement n bits r ≡ j → met_lines (suc k) 64 bits rs ≡ met_lines (suc k) n bits rs → met_lines k 64 bits (r ∷ rs) ≡ met_lines k n bits (r ∷ rs)
-    go (By b) e more =
+    go : (j : Option BitNumber) → judgement n bits r ≡ j → met_lines (suc k) 64 bits rs ≡ met_lines (suc k) n bits rs → met_lines k 64 bits (r ∷ rs) ≡ met_lines k n bits (r ∷ rs)
+    go (Some b) e more =
         lines-by k 64 bits r rs b (wide ∙ e) ∙ ap {B = List (List ℕ)} (λ ls. met_line (record { 0 = k }) b ∷ ls) more ∙ sym (lines-by k n bits r rs b e)
-    go ByNone e more = lines_none k 64 bits r rs (wide ∙ e) ∙ more ∙ sym (lines_none k n bits r rs e)
+    go None e more = lines_none k 64 bits r rs (wide ∙ e) ∙ more ∙ sym (lines_none k n bits r rs e)

@@ -1,4 +1,5 @@
 -- How long the lines of a report can be, by the digits of their numbers, and the whole, within 01's limits: what a lent buffer has to hold.
+use Rattle.std.specs.Prelude.{Option, Some, None}
 use mathlib.Core.Path.{◌≡◌, refl}
 use mathlib.Core.Bool.{Bool, true, false}
 use mathlib.Core.List.{List, [], ◌∷◌, ◌++◌, map}
@@ -10,8 +11,6 @@ use Rattle.rules.specs.declared.Encoding.{Encoding}
 use Rattle.rules.specs.declared.StateNumber.{StateNumber}
 use Rattle.rules.specs.declared.RequirementNumber.{RequirementNumber}
 use Rattle.rules.specs.declared.BitNumber.{BitNumber}
-use Rattle.rules.specs.declared.Judgement.{Judgement}
-use Rattle.rules.specs.declared.Judgement.TheVariants.{By, ByNone}
 use Rattle.rules.specs.Limits.{most_states, most_bits, most_asked}
 use Rattle.rules.specs.Text.{bytes, nought}
 use Rattle.rules.specs.Code.{code_of, unmet_from}
@@ -56,11 +55,11 @@ count-length d f bits asked unmet passes looks a b c p l =
     (omega (arith, decimal-length d bits a, decimal-length f asked b, decimal-length f unmet c, decimal-length 19 passes (omega arith), decimal-length 19 looks (omega arith))))
 
 -- a requirement has one line of the two kinds
-judged-length : (d f k : ℕ) (j : Judgement) → k < 10 ^ (d + 1) → ((b : BitNumber) → j ≡ By b → b.0 < 10 ^ (f + 1))
+judged-length : (d f k : ℕ) (j : Option BitNumber) → k < 10 ^ (d + 1) → ((b : BitNumber) → j ≡ Some b → b.0 < 10 ^ (f + 1))
     → length (line_for Listed.Met k j) + length (line_for Listed.Unmet k j) ≤ d + f + 7
 unfolding line_for
-judged-length d f k (By b) h low = omega (arith, met-length d f (record { 0 = k }) b h (low b refl))
-judged-length d f k ByNone h low = omega (arith, unmet-length d (record { 0 = k }) h)
+judged-length d f k (Some b) h low = omega (arith, met-length d f (record { 0 = k }) b h (low b refl))
+judged-length d f k None h low = omega (arith, unmet-length d (record { 0 = k }) h)
 
 pub line-length : (l : Listed) (k : ℕ) (bits : List ℕ) (r : Requirement) → k < 2 ^ 64 → length bits < 2 ^ 64 → length (line_for l k (judgement 64 bits r)) ≤ 45
 line-length l k bits r h w = go l (judged-length 19 19 k (judgement 64 bits r) (omega arith) (λ b e. omega (arith, (judged-by 64 bits r b e).below)))

@@ -1,4 +1,6 @@
 -- The report written from an answer that holds the code of a fair listing is the report of 01.
+use Rattle.rules.specs.declared.BitNumber.{BitNumber}
+use Rattle.std.specs.Prelude.{Option, Some, None}
 use mathlib.Core.Path.{◌≡◌, sym, ap, ◌∙◌}
 use mathlib.Core.List.{List, [], ◌∷◌, ◌++◌, map}
 use Prim.Native.Nat.{ℕ, suc, ◌≤◌}
@@ -23,8 +25,6 @@ use Rattle.code_drawing.proofs.Requirements.{all_are}
 use Rattle.code_drawing.proofs.Whole.{few-all}
 use Rattle.code_judging.proofs.Wide.{unmet-wide}
 use Rattle.rules.specs.Requirements.{requirements, judgement}
-use Rattle.rules.specs.declared.Judgement.{Judgement}
-use Rattle.rules.specs.declared.Judgement.TheVariants.{By, ByNone}
 use Rattle.rules.proofs.Ended.{ended-map, Pieces, no-piece, gap, piece, pieces, pieces-append}
 use Rattle.rules.proofs.ReportLines.{count-ended, state-ended, met-ended, unmet-ended, end-ended}
 use Rattle.write_pen.proofs.Growing.{joined-append}
@@ -95,11 +95,11 @@ unfolding lines_of line_for
 judged-pieces l k bits [] = no-piece
 judged-pieces l k bits (r ∷ rs) = go l (judgement 64 bits r) (judged-pieces l (suc k) bits rs)
   where
-    go : (l : Listed) (j : Judgement) {ls : List (List ℕ)} → Pieces ls → Pieces (line_for l k j ∷ ls)
-    go Listed.Met (By b) a = piece (met-ended (record { 0 = k }) b) a
-    go Listed.Met ByNone a = gap a
-    go Listed.Unmet (By b) a = gap a
-    go Listed.Unmet ByNone a = piece (unmet-ended (record { 0 = k })) a
+    go : (l : Listed) (j : Option BitNumber) {ls : List (List ℕ)} → Pieces ls → Pieces (line_for l k j ∷ ls)
+    go Listed.Met (Some b) a = piece (met-ended (record { 0 = k }) b) a
+    go Listed.Met None a = gap a
+    go Listed.Unmet (Some b) a = gap a
+    go Listed.Unmet None a = piece (unmet-ended (record { 0 = k })) a
 
 pub report-pieces : (n : ℕ) (fs : List ℕ) (e : Encoding) → Pieces (encoded_lines n fs e)
 unfolding encoded_lines state_lines

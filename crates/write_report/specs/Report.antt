@@ -1,5 +1,6 @@
 -- The report as written from an encoder's answer and the families of a listing, line by line.
-use Rattle.std.specs.Prelude.{◌≡◌, List, [], ◌∷◌, ◌++◌, map, ℕ, suc, ◌+◌, ◌*◌, length, take}
+use Rattle.rules.specs.declared.BitNumber.{BitNumber}
+use Rattle.std.specs.Prelude.{◌≡◌, List, [], ◌∷◌, ◌++◌, map, ℕ, suc, ◌+◌, ◌*◌, length, take, Option, Some, None}
 use Rattle.sets.specs.Sets.{states_from}
 use Rattle.rules.specs.Limits.{most_states, most_rows, most_dichotomies}
 use Rattle.rules.specs.Text.{bytes}
@@ -7,8 +8,6 @@ use Rattle.rules.specs.Requirements.{judgement, requirements}
 use Rattle.rules.specs.Code.{Code, unmet}
 use Rattle.rules.specs.Report.{count_line, state_line, met_line, unmet_line, joined_lines}
 use Rattle.rules.specs.declared.Requirement.{Requirement}
-use Rattle.rules.specs.declared.Judgement.{Judgement}
-use Rattle.rules.specs.declared.Judgement.TheVariants.{By, ByNone}
 use Rattle.rules.specs.declared.Listing.{Listing}
 use Rattle.rules.specs.declared.Encoding.{Encoding}
 use Rattle.families.specs.Families.{requirements_in}
@@ -19,11 +18,11 @@ unfoldable pub state_lines : List ℕ → ℕ → List (List ℕ)
 state_lines bits n = map (λ s. state_line bits (record { 0 = s })) (states_from 0 n)
 
 -- the line of the requirement with the number k, by its judgement, in the list of those that are met or of those that are not
-unfoldable pub line_for : Listed → ℕ → Judgement → List ℕ
-line_for Listed.Met k (By b) = met_line (record { 0 = k }) b
-line_for Listed.Met k ByNone = []
-line_for Listed.Unmet k (By b) = []
-line_for Listed.Unmet k ByNone = unmet_line (record { 0 = k })
+unfoldable pub line_for : Listed → ℕ → Option BitNumber → List ℕ
+line_for Listed.Met k (Some b) = met_line (record { 0 = k }) b
+line_for Listed.Met k None = []
+line_for Listed.Unmet k (Some b) = []
+line_for Listed.Unmet k None = unmet_line (record { 0 = k })
 
 -- the lines of requirements, the first of which has the number k, an empty one for each that is not in the list; a set of states has 64 digits
 unfoldable pub lines_of : Listed → ℕ → List ℕ → List Requirement → List (List ℕ)

@@ -14,7 +14,7 @@ ghost use Rattle.write_parts.specs.Parts.{added, added_all};
 ghost use Rattle.write_report.specs.declared.Listed.{Listed};
 ghost use Rattle.write_report.specs.Report.{state_lines, line_for, lines_of, most_words, encoded_lines};
 
-use rules::{Encoding, Judgement, RequirementNumber, StateNumber};
+use rules::{BitNumber, Encoding, RequirementNumber, StateNumber};
 use write_parts::Part;
 
 // No line of a requirement has more bytes.
@@ -79,18 +79,18 @@ fn add_states(out: &mut [u8], part: Part, bits: &[u64], n: usize) -> Part
 fn put_judged(
     out: &mut [u8],
     at: usize,
-    judged: Judgement,
+    judged: Option<BitNumber>,
     number: RequirementNumber,
     listed: Listed,
 ) -> usize
     ensures { Wrote out.old at (line_for listed number.0 judged) result out.new }
 {
     match judged {
-        Judgement::By(bit) => match listed {
+        Some(bit) => match listed {
             Listed::Met => entries::put_met_line(out, at, number, bit),
             Listed::Unmet => at,
         },
-        Judgement::ByNone => match listed {
+        None => match listed {
             Listed::Met => at,
             Listed::Unmet => entries::put_unmet_line(out, at, number),
         },
@@ -101,7 +101,7 @@ fn put_judged(
 fn add_judged(
     out: &mut [u8],
     part: Part,
-    judged: Judgement,
+    judged: Option<BitNumber>,
     number: RequirementNumber,
     listed: Listed,
 ) -> Part
@@ -123,7 +123,7 @@ fn add_judged(
 }
 
 // 1 for a requirement that no bit meets, else 0.
-pub fn missed(judged: Judgement) -> usize
+pub fn missed(judged: Option<BitNumber>) -> usize
     ensures { result ≡ digit (not (is_by judged)) }
 {
     if judged.is_met() {

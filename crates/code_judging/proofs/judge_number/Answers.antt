@@ -1,7 +1,7 @@
 -- `code_judging::judge_number` meets its contract: the families of all that the listing asks, drawn up and looked through.
+use Rattle.std.specs.Prelude.{None}
 use lib.ListN.{length, take}
 use mathlib.Core.Bool.{cond, Bool}
-use Rattle.rules.specs.declared.Judgement.TheVariants.{ByNone}
 use mathlib.Core.Path.{ap₂, ◌≡◌, sym, ap, ◌∙◌}
 use Rattle.sets.proofs.Places.{take-most}
 use Rattle.rules.specs.Limits.{most_bits}
@@ -24,7 +24,7 @@ pub returns-then-asked-k : goal.returns-then-asked-k
 unfolding judged
 returns-then-asked-k c =
     let s = c.args in
-    sym (ap (λ (x : Bool). cond x (judgement_at 64 (take s.e.width s.e.bits) (requirements_in (all_families s.t)) s.r.0) ByNone) (le-ltb s.r.0 s.e.asked c.if-asked-k.true))
+    sym (ap (λ (x : Bool). cond x (judgement_at 64 (take s.e.width s.e.bits) (requirements_in (all_families s.t)) s.r.0) None) (le-ltb s.r.0 s.e.asked c.if-asked-k.true))
 
 pub returns : goal.returns
 unfolding judged
@@ -32,4 +32,4 @@ returns c =
     let a = c.args in
     c.judge_in.ensures
     ∙ ap₂ (λ (bs : List ℕ) (fs : List ℕ). judgement_at 64 bs (requirements_in fs) a.r.0) (ap (λ (k : ℕ). take k a.e.bits) c.least-width.ensures ∙ take-most a.e.width most_bits a.e.bits (long (goal.at.returns c).Start)) (drew-words c.draw_all-words.ensures)
-    ∙ sym (ap (λ (x : Bool). cond x (judgement_at 64 (take a.e.width a.e.bits) (requirements_in (all_families a.t)) a.r.0) ByNone) (lt-ltb a.r.0 a.e.asked c.if-asked-k.false))
+    ∙ sym (ap (λ (x : Bool). cond x (judgement_at 64 (take a.e.width a.e.bits) (requirements_in (all_families a.t)) a.r.0) None) (lt-ltb a.r.0 a.e.asked c.if-asked-k.false))

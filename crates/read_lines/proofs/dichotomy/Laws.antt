@@ -1,4 +1,7 @@
 -- A `DI` line: what stands behind its mark is one field in order or refused, one of the first 64 or refused.
+use Rattle.rules.specs.declared.Requirement.{Requirement}
+use Rattle.rules.specs.declared.Refusal.{Refusal}
+use Rattle.std.specs.Prelude.{Result, Ok, Err}
 use mathlib.Core.Path.{◌≡◌, refl, ◌∙◌}
 use mathlib.Core.Bool.{Bool, true, false, ◌&&◌, cond}
 use mathlib.Core.List.{List, [], ◌∷◌}
@@ -13,7 +16,6 @@ use Rattle.rules.specs.Text.{plus, dash, dot, space, split, sized, set_of}
 use Rattle.rules.specs.Lines.{dichotomy_line}
 use Rattle.rules.specs.declared.Head.{Head}
 use Rattle.rules.specs.declared.Refusal.TheVariants.{BadLine, Limit}
-use Rattle.rules.specs.declared.DichotomyLine.{DichotomyLine}
 use Rattle.read_fields.specs.Fields.{places_in}
 use Rattle.read_fields.specs.declared.Places.{Places}
 use Rattle.read_fields.proofs.Characters.{sized-turn}
@@ -22,39 +24,39 @@ use Rattle.read_pieces.proofs.Laws.{Cut}
 use Rattle.read_lines.proofs.Fields.{field-last}
 
 -- what a field that is in order says, behind so many others
-abbrev said : Bool → List ℕ → DichotomyLine
-said s f = cond s (DichotomyLine.Refused Limit) (DichotomyLine.Read (record { first = set_of plus f; second = set_of dash f }))
+abbrev said : Bool → List ℕ → Result Requirement Refusal
+said s f = cond s (Err Limit) (Ok (record { first = set_of plus f; second = set_of dash f }))
 
 -- the mark is a piece, and the rest decides
 line-pieces : (h : Head) (count : ℕ) (l f : List ℕ) (ps : List (List ℕ)) {s : Bool} → leb most_dichotomies count ≡ s → split space l ≡ f ∷ ps
-    → dichotomy_line h count l ≡ cond (eqb (length ps) 1 && sized most_states h.states plus dash dot (get_or ps 0 [])) (said s (get_or ps 0 [])) (DichotomyLine.Refused BadLine)
+    → dichotomy_line h count l ≡ cond (eqb (length ps) 1 && sized most_states h.states plus dash dot (get_or ps 0 [])) (said s (get_or ps 0 [])) (Err BadLine)
 unfolding dichotomy_line
 line-pieces h count l f ps s e = rw (e, eqb-suc-suc (length ps) 1, s)
 
 -- a field in order is one piece, and one piece is the field
 rest-pieces : (k : ℕ) (t : List ℕ) (s b : Bool) → sized most_states k plus dash dot t ≡ b
-    → cond (eqb (length (split space t)) 1 && sized most_states k plus dash dot (get_or (split space t) 0 [])) (said s (get_or (split space t) 0 [])) (DichotomyLine.Refused BadLine)
-    ≡ cond b (said s t) (DichotomyLine.Refused BadLine)
+    → cond (eqb (length (split space t)) 1 && sized most_states k plus dash dot (get_or (split space t) 0 [])) (said s (get_or (split space t) 0 [])) (Err BadLine)
+    ≡ cond b (said s t) (Err BadLine)
 rest-pieces k t s b e =
-    field-last (λ ps. eqb (length ps) 1 && sized most_states k plus dash dot (get_or ps 0 [])) (λ ps. said s (get_or ps 0 [])) (DichotomyLine.Refused BadLine) most_states k plus dash dot
+    field-last (λ ps. eqb (length ps) 1 && sized most_states k plus dash dot (get_or ps 0 [])) (λ ps. said s (get_or ps 0 [])) (Err BadLine) most_states k plus dash dot
     (λ z. omega arith) (λ z. omega arith) (λ z. omega arith) (λ ps f. and_second (eqb (length ps) 1) _ f) (λ ps f. eqb-true _ 1 (and_first _ _ f)) t
     ∙ rw e
 
 -- the mark ends at r
 module _ (h : Head) (count : ℕ) (l : List ℕ) (r : ℕ) (c : Cut space l 0 r) where
-  pub dichotomy-none : length l ≤ r → dichotomy_line h count l ≡ DichotomyLine.Refused BadLine
+  pub dichotomy-none : length l ≤ r → dichotomy_line h count l ≡ Err BadLine
   dichotomy-none n = line-pieces h count l _ [] refl (c.last n)
 
   module _ {t : List ℕ} (n : r < length l) (e : t ≡ drop (r + 1) l) where
     dichotomy-rest : {s b : Bool} → leb most_dichotomies count ≡ s → sized most_states h.states plus dash dot t ≡ b
-        → dichotomy_line h count l ≡ cond b (said s t) (DichotomyLine.Refused BadLine)
+        → dichotomy_line h count l ≡ cond b (said s t) (Err BadLine)
     dichotomy-rest {s} {b} p q = line-pieces h count l _ _ p (c.more n) ∙ rw (← e) (rest-pieces h.states t s b q)
 
-    pub dichotomy-unfit : places_in most_states h.states dot plus dash t ≡ Places.Bad → dichotomy_line h count l ≡ DichotomyLine.Refused BadLine
+    pub dichotomy-unfit : places_in most_states h.states dot plus dash t ≡ Places.Bad → dichotomy_line h count l ≡ Err BadLine
     dichotomy-unfit p = dichotomy-rest {b = false} refl (rw (← sized-turn most_states h.states dot plus dash t) (places-none dot plus dash t most_states h.states (λ k. omega arith) p))
 
     pub dichotomy-fit : {s : Bool} {m o : ℕ} → leb most_dichotomies count ≡ s → places_in most_states h.states dot plus dash t ≡ Places.Read m o
-        → dichotomy_line h count l ≡ cond s (DichotomyLine.Refused Limit) (DichotomyLine.Read (record { first = m; second = o }))
+        → dichotomy_line h count l ≡ cond s (Err Limit) (Ok (record { first = m; second = o }))
     dichotomy-fit p q =
         let k = places-read dot plus dash t most_states h.states (λ k. omega arith) q in
         rw (k.1, k.2) (dichotomy-rest {b = true} p (rw (← sized-turn most_states h.states dot plus dash t) k.0))

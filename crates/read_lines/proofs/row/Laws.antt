@@ -1,4 +1,6 @@
 -- A `PT` line: what stands behind its mark, its fields at known places or refused, and then the row.
+use Rattle.rules.specs.declared.Refusal.{Refusal}
+use Rattle.std.specs.Prelude.{Result, Err}
 use mathlib.Core.Path.{◌≡◌, refl, ◌∙◌}
 use mathlib.Core.Bool.{Bool, true, false, ◌&&◌, cond}
 use mathlib.Core.List.{List, [], ◌∷◌}
@@ -15,7 +17,6 @@ use Rattle.rules.specs.declared.Head.{Head}
 use Rattle.rules.specs.declared.Pattern.{Pattern}
 use Rattle.rules.specs.declared.Refusal.TheVariants.{BadLine}
 use Rattle.rules.specs.declared.Row.{Row}
-use Rattle.rules.specs.declared.RowLine.{RowLine}
 use Rattle.read_fields.specs.Fields.{places_in}
 use Rattle.read_fields.specs.declared.Places.{Places}
 use Rattle.read_fields.proofs.Sets.{places-read, places-none}
@@ -45,7 +46,7 @@ module _ (h : Head) (count line : ℕ) (input group next : List ℕ) (outputs : 
     (p : sized most_inputs h.inputs nought one dash input ≡ a)
     (q : sized most_states h.states nought one one group ≡ b)
     (r : sized most_states h.states nought one one next ≡ c) where
-  pub read-each : row_read h count line input group next outputs ≡ cond (a && b && c) (row_checked count (rowWith line input group next outputs)) (RowLine.Refused BadLine)
+  pub read-each : row_read h count line input group next outputs ≡ cond (a && b && c) (row_checked count (rowWith line input group next outputs)) (Err BadLine)
   unfolding row_read
   read-each = rw (fits_each h input group next p q r)
 
@@ -108,67 +109,67 @@ fit-outputs h ps e = and_second (row_fits h (get_or ps 0 []) (get_or ps 1 []) (g
 -- ---- the fields at their places, behind those that were found
 
 module _ (m : Bool) (h : Head) (count line : ℕ) where
-  abbrev made : List (List ℕ) → RowLine
+  abbrev made : List (List ℕ) → Result Row Refusal
   made ps = row_checked count (row_of line (get_or ps 0 []) (get_or ps 1 []) (get_or ps 2 []) (outputs_in m ps))
 
   pub at-input : (t : List ℕ)
       → row_pieces m h count line (split space t)
-      ≡ cond (stands_at space h.inputs t) (row_pieces m h count line (take h.inputs t ∷ split space (drop (h.inputs + 1) t))) (RowLine.Refused BadLine)
+      ≡ cond (stands_at space h.inputs t) (row_pieces m h count line (take h.inputs t ∷ split space (drop (h.inputs + 1) t))) (Err BadLine)
   unfolding row_pieces
   at-input t =
-      field-here (pieces_fit m h) made (RowLine.Refused BadLine) most_inputs h.inputs nought one dash (λ z. omega arith) (λ z. omega arith) (λ z. omega arith)
+      field-here (pieces_fit m h) made (Err BadLine) most_inputs h.inputs nought one dash (λ z. omega arith) (λ z. omega arith) (λ z. omega arith)
       (λ ps e. (fit_of m h ps e).fit1) (λ ps e. omega (arith, (fit_of m h ps e).some, fields-three m)) t
 
   pub at-group : (input t : List ℕ)
       → row_pieces m h count line (input ∷ split space t)
-      ≡ cond (stands_at space h.states t) (row_pieces m h count line (input ∷ (take h.states t ∷ split space (drop (h.states + 1) t)))) (RowLine.Refused BadLine)
+      ≡ cond (stands_at space h.states t) (row_pieces m h count line (input ∷ (take h.states t ∷ split space (drop (h.states + 1) t)))) (Err BadLine)
   unfolding row_pieces
   at-group input t =
-      field-here (λ ps. pieces_fit m h (input ∷ ps)) (λ ps. made (input ∷ ps)) (RowLine.Refused BadLine) most_states h.states nought one one (λ z. omega arith) (λ z. omega arith)
+      field-here (λ ps. pieces_fit m h (input ∷ ps)) (λ ps. made (input ∷ ps)) (Err BadLine) most_states h.states nought one one (λ z. omega arith) (λ z. omega arith)
       (λ z. omega arith) (λ ps e. (fit_of m h (input ∷ ps) e).fit2) (λ ps e. omega (arith, (fit_of m h (input ∷ ps) e).some, fields-three m)) t
 
 -- where the row has outputs
 module _ (h : Head) (count line : ℕ) (input group : List ℕ) where
   at_next : (t : List ℕ)
       → row_pieces false h count line (input ∷ (group ∷ split space t))
-      ≡ cond (stands_at space h.states t) (row_pieces false h count line (input ∷ (group ∷ (take h.states t ∷ split space (drop (h.states + 1) t))))) (RowLine.Refused BadLine)
+      ≡ cond (stands_at space h.states t) (row_pieces false h count line (input ∷ (group ∷ (take h.states t ∷ split space (drop (h.states + 1) t))))) (Err BadLine)
   unfolding row_pieces
   at_next t =
-      field-here (λ ps. pieces_fit false h (input ∷ (group ∷ ps))) (λ ps. made false h count line (input ∷ (group ∷ ps))) (RowLine.Refused BadLine) most_states h.states nought one one
+      field-here (λ ps. pieces_fit false h (input ∷ (group ∷ ps))) (λ ps. made false h count line (input ∷ (group ∷ ps))) (Err BadLine) most_states h.states nought one one
       (λ z. omega arith) (λ z. omega arith) (λ z. omega arith) (λ ps e. (fit_of false h (input ∷ (group ∷ ps)) e).fit3)
       (λ ps e. omega (arith, (fit_of false h (input ∷ (group ∷ ps)) e).some)) t
 
   at-outputs : (next t : List ℕ) → row_pieces false h count line (input ∷ (group ∷ (next ∷ split space t))) ≡ row_pieces false h count line (input ∷ (group ∷ (next ∷ (t ∷ []))))
   unfolding row_pieces
   at-outputs next t =
-      field-last (λ ps. pieces_fit false h (input ∷ (group ∷ (next ∷ ps)))) (λ ps. made false h count line (input ∷ (group ∷ (next ∷ ps)))) (RowLine.Refused BadLine)
+      field-last (λ ps. pieces_fit false h (input ∷ (group ∷ (next ∷ ps)))) (λ ps. made false h count line (input ∷ (group ∷ (next ∷ ps)))) (Err BadLine)
       most_outputs h.outputs nought one dash (λ z. omega arith) (λ z. omega arith) (λ z. omega arith) (λ ps e. fit-outputs h (input ∷ (group ∷ (next ∷ ps))) e)
       (λ ps e. omega (arith, (fit_of false h (input ∷ (group ∷ (next ∷ ps))) e).some)) t
 
   -- all four
   four-fields : (next outputs : List ℕ) {b : Bool} → sized most_outputs h.outputs nought one dash outputs ≡ b
       → row_pieces false h count line (input ∷ (group ∷ (next ∷ (outputs ∷ []))))
-      ≡ cond b (row_read h count line input group next (record { ones = set_of one outputs; dashes = set_of dash outputs })) (RowLine.Refused BadLine)
+      ≡ cond b (row_read h count line input group next (record { ones = set_of one outputs; dashes = set_of dash outputs })) (Err BadLine)
   unfolding row_pieces pieces_fit outputs_in outputs_fit row_read
   four-fields next outputs {b} e = rw e (go (row_fits h input group next) b)
     where
       go : (a b : Bool)
-          → cond (a && b) (row_checked count (row_of line input group next outputs)) (RowLine.Refused BadLine)
-          ≡ cond b (cond a (row_checked count (row_of line input group next outputs)) (RowLine.Refused BadLine)) (RowLine.Refused BadLine)
+          → cond (a && b) (row_checked count (row_of line input group next outputs)) (Err BadLine)
+          ≡ cond b (cond a (row_checked count (row_of line input group next outputs)) (Err BadLine)) (Err BadLine)
       go true true = refl
       go true false = refl
       go false true = refl
       go false false = refl
 
   module _ (v : List ℕ) where
-    pub end-first : stands_at space h.states v ≡ false → row_end h count line input group v ≡ RowLine.Refused BadLine
+    pub end-first : stands_at space h.states v ≡ false → row_end h count line input group v ≡ Err BadLine
     unfolding row_end
     end-first e = at_next v ∙ rw e
 
     pub end-fields : {next outputs : List ℕ} {b : Bool} → stands_at space h.states v ≡ true → next ≡ take h.states v → outputs ≡ drop (h.states + 1) v
         → sized most_outputs h.outputs nought one dash outputs ≡ b
         → row_end h count line input group v
-        ≡ cond b (row_read h count line input group next (record { ones = set_of one outputs; dashes = set_of dash outputs })) (RowLine.Refused BadLine)
+        ≡ cond b (row_read h count line input group next (record { ones = set_of one outputs; dashes = set_of dash outputs })) (Err BadLine)
     unfolding row_end
     end-fields {next} {outputs} e n o f = at_next v ∙ rw (e, ← n, ← o) (at-outputs next outputs ∙ four-fields next outputs f)
 
@@ -177,14 +178,14 @@ module _ (h : Head) (count line : ℕ) (input group : List ℕ) where
   three-fields : (t : List ℕ) → row_pieces true h count line (input ∷ (group ∷ split space t)) ≡ row_read h count line input group t (record { ones = 0; dashes = 0 })
   unfolding row_pieces pieces_fit outputs_in row_read set_of
   three-fields t =
-      field-last (λ ps. pieces_fit true h (input ∷ (group ∷ ps))) (λ ps. made true h count line (input ∷ (group ∷ ps))) (RowLine.Refused BadLine) most_states h.states nought one one
+      field-last (λ ps. pieces_fit true h (input ∷ (group ∷ ps))) (λ ps. made true h count line (input ∷ (group ∷ ps))) (Err BadLine) most_states h.states nought one one
       (λ z. omega arith) (λ z. omega arith) (λ z. omega arith) (λ ps e. (fit_of true h (input ∷ (group ∷ ps)) e).fit3)
       (λ ps e. omega (arith, (fit_of true h (input ∷ (group ∷ ps)) e).some)) t
 
 -- ---- what stands behind the mark
 
 module _ (h : Head) (count line : ℕ) (t : List ℕ) where
-  pub rest-first : stands_at space h.inputs t ≡ false → row_rest h count line t ≡ RowLine.Refused BadLine
+  pub rest-first : stands_at space h.inputs t ≡ false → row_rest h count line t ≡ Err BadLine
   unfolding row_rest
   rest-first e = at-input h.moore h count line t ∙ rw e
 
@@ -193,7 +194,7 @@ module _ (h : Head) (count line : ℕ) (t : List ℕ) where
     unfolding row_rest
     rest-input = at-input h.moore h count line t ∙ rw (p, eu)
 
-    pub rest-second : stands_at space h.states u ≡ false → row_rest h count line t ≡ RowLine.Refused BadLine
+    pub rest-second : stands_at space h.states u ≡ false → row_rest h count line t ≡ Err BadLine
     rest-second e = rest-input ∙ at-group h.moore h count line _ u ∙ rw e
 
     module _ {v input group : List ℕ} (q : stands_at space h.states u ≡ true) (ev : v ≡ drop (h.states + 1) u)
@@ -221,11 +222,11 @@ line-pieces h count line l f ps e = go h.moore
 
 -- the mark ends at r
 module _ (h : Head) (count line : ℕ) (l : List ℕ) (r : ℕ) (c : Cut space l 0 r) where
-  pub line-none : length l ≤ r → row_line h count line l ≡ RowLine.Refused BadLine
+  pub line-none : length l ≤ r → row_line h count line l ≡ Err BadLine
   unfolding row_pieces pieces_fit
   line-none n = line-pieces h count line l _ [] (c.last n) ∙ go h.moore
     where
-      go : (m : Bool) → row_pieces m h count line [] ≡ RowLine.Refused BadLine
+      go : (m : Bool) → row_pieces m h count line [] ≡ Err BadLine
       go true = refl
       go false = refl
 

@@ -1,11 +1,11 @@
 -- `read_lines::outputs::outputs_line` meets its contract.
+use Rattle.std.specs.Prelude.{Ok}
 use mathlib.Core.Path.{◌≡◌, sym, ap, ◌∙◌}
 use native.Mathlib.Omega.{arith}
 use lib.ListN.{length}
 use borrow.Author.Tests.{lt-ltb, le-ltb}
 use Rattle.rules.specs.Limits.{most_outputs}
 use Rattle.rules.specs.Text.{fields_of, numeral_of}
-use Rattle.rules.specs.declared.OutputsLine.{OutputsLine}
 use Rattle.read_fields.specs.Fields.{pattern_in}
 use Rattle.read_fields.proofs.Sets.{pattern-read, pattern-none}
 use Rattle.read_lines.proofs.outputs.Laws.{outputs-count, outputs-unfit, outputs-unnumbered, outputs-numbered}
@@ -41,4 +41,4 @@ returns c =
     let f = ap (pattern_in most_outputs _) (sym c.field.ensures) ∙ sym c.pattern_in.ensures ∙ c.in-Read.is in
     let g = ap numeral_of (sym c.field-2.ensures) ∙ sym c.numeral_of.ensures ∙ c.in-Is.is in
     let fit = pattern-read most_outputs _ _ (omega arith) f in
-    ap (OutputsLine.Read (record { 0 = c.in-Is.s })) fit.1 ∙ sym (outputs-numbered _ _ (three (goal.at.returns c).Else-field_count-ne3) fit.0 g (lt-ltb _ _ c.if-h-s.false))
+    ap (Ok (record { 0 = c.in-Is.s })) fit.1 ∙ sym (outputs-numbered _ _ (three (goal.at.returns c).Else-field_count-ne3) fit.0 g (lt-ltb _ _ c.if-h-s.false))
