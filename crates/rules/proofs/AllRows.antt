@@ -15,11 +15,11 @@ use Rattle.rules.specs.Listing.{no_pattern, no_row, rows_of, state_row, state_ro
 use Rattle.rules.specs.declared.Pattern.{Pattern}
 use Rattle.rules.specs.declared.Row.{Row}
 use Rattle.rules.specs.declared.Listing.{Listing}
-use Rattle.rules.specs.declared.Verdict.{Verdict}
 use Rattle.rules.proofs.Faces.{GroupMet}
 use Rattle.rules.proofs.SoundLines.{FitRow, sound-fits}
 use Rattle.rules.proofs.Sound.{Sound, rows-length, row_of}
 use Rattle.rules.proofs.Sharing.{rows_apart}
+use Rattle.std.specs.Prelude.{Ok}
 
 -- ---- of each
 
@@ -116,7 +116,7 @@ apart-behind xs ys f g i j h l = go (dec_lt j (length xs))
         names-none (get_or (xs ++ ys) i no_row) (get_or (xs ++ ys) j no_row)
         (ap (λ (m : ℕ). (get_or (xs ++ ys) m no_row).next) e ∙ ap (λ (r : Row). r.next) (get_or-append-add xs ys k no_row) ∙ g k (omega (arith, length-append xs ys)))
 
-pub all_apart : (t : Listing) → conflict (rows_of t) ≡ Verdict.Accepted → Apart (all_rows t)
+pub all_apart : (t : Listing) → conflict (rows_of t) ≡ Ok tt → Apart (all_rows t)
 unfolding all_rows
 all_apart t e = apart-behind (rows_of t) (added_rows t) (rows_apart (rows_of t) e) (each-added t (λ (r : Row). r.next ≡ 0) (λ s l. refl))
 

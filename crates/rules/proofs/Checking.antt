@@ -1,6 +1,6 @@
 -- 02, request 10: checking says `OK` exactly when every pair and group requirement is met and the cover agrees at each state and input; `AT` where they are met and
 -- it does not agree there and nowhere before; and `UN` with the lowest that is unmet. A cover of ours is `OK` by its own code.
-use Rattle.std.specs.Prelude.{Option, Some, None}
+use Rattle.std.specs.Prelude.{Option, Some, None, Ok}
 use mathlib.Core.Path.{◌≡◌, refl, sym, ap, ap₂, subst, ◌∙◌}
 use mathlib.Core.Bool.{Bool, true, false, not}
 use mathlib.Core.List.{List, [], ◌∷◌, ◌++◌}
@@ -21,7 +21,6 @@ use Rattle.rules.specs.Check.{fails, lowest_from, fault_at, fault_from, fault_of
 use Rattle.rules.specs.Answers.{says, cover_of}
 use Rattle.rules.specs.declared.Listing.{Listing}
 use Rattle.rules.specs.declared.Refusal.TheVariants.{Unmet}
-use Rattle.rules.specs.declared.Verdict.{Verdict}
 use Rattle.rules.specs.declared.Fault.{Fault}
 use Rattle.rules.proofs.Ways.{chose-second}
 use Rattle.rules.proofs.Sound.{Sound}
@@ -235,7 +234,7 @@ none-listed (u ∷ us) e = absurd (omega (arith, leb-false 1 (suc (length us)) e
 code_same : (a b : Code) → coded a ≡ coded b → a ≡ b
 code_same a b e = cc
 
-pub own-ok : (t : Listing) (c : Code) (text : List ℕ) → Sound t → conflict (rows_of t) ≡ Verdict.Accepted → cover_of t (coded c) ≡ says text → check_text t c.bits (lines_of text) ≡ bytes "OK\n"
+pub own-ok : (t : Listing) (c : Code) (text : List ℕ) → Sound t → conflict (rows_of t) ≡ Ok tt → cover_of t (coded c) ≡ says text → check_text t c.bits (lines_of text) ≡ bytes "OK\n"
 unfolding cover_of
 own-ok t c text sound apart e =
     let un : List ℕ = unmet_from 0 t.head.states c.bits (pairs_and_groups t) in

@@ -3,7 +3,6 @@
 use mathlib.Core.Path.{◌≡◌, refl, sym, ap, ◌∙◌}
 use mathlib.Core.Logic.{◌⊎◌, inl, inr, ⊎_elim}
 use mathlib.Core.Bool.{Bool, true, false}
-use mathlib.Core.List.Memᴰ
 use mathlib.Core.List.{List, [], ◌∷◌, ◌++◌, map, Memᴰ}
 use Prim.Native.Nat.{ℕ, zero, suc, ◌<◌}
 use native.Mathlib.Omega.{arith}
@@ -12,6 +11,7 @@ use Rattle.sets.specs.Sets.{states_from}
 use Rattle.rules.specs.Least.{in_front, codes_of, First, first, none, first_with}
 use Rattle.rules.proofs.Runs.{Below}
 use Rattle.rules.proofs.Asked.{state-listed, state-below}
+use mathlib.Core.List.Memᴰ
 
 -- a code of w columns, each a number below c
 abbrev pub Columns : ℕ → ℕ → List ℕ → Type 0

@@ -17,10 +17,9 @@ use Rattle.rules.specs.Code.{code_of}
 use Rattle.rules.specs.Listing.{nothing}
 use Rattle.rules.specs.Report.{digits, code_text, state_line, joined_lines}
 use Rattle.rules.specs.ListingText.{set_field}
-use Rattle.rules.specs.CheckTexts.{code_fits, width_in, is_number, code_good, codes_refused, codes_read, with_code, codes_from, codes_reading, bit_in}
+use Rattle.rules.specs.CheckTexts.{code_fits, width_in, is_number, code_good, with_code, codes_from, codes_reading, bit_in, CodesReading}
 use Rattle.rules.specs.Check.{bits_of}
 use Rattle.rules.specs.declared.CodeTable.{CodeTable}
-use Rattle.rules.specs.declared.CodesReading.{CodesReading}
 use Rattle.rules.proofs.Fields.{Without, none, more, without-append, split-last, split-part}
 use Rattle.rules.proofs.Decimal.{decimal-without}
 use Rattle.rules.proofs.Most.{states-length}
@@ -30,6 +29,9 @@ use Rattle.rules.proofs.LinesAside.{map-like, map-twice}
 use Rattle.rules.proofs.ReportLines.{code-high, code-without}
 use Rattle.rules.proofs.CoverLines.{rows-first}
 use Rattle.rules.proofs.ListingBack.{filled_on}
+use Rattle.rules.specs.Refusals.{refused}
+use Rattle.std.specs.Prelude.{Ok}
+use Rattle.rules.specs.declared.Refusal.TheVariants.{BadLine}
 
 -- ---- the lines
 
@@ -133,7 +135,7 @@ codes-some : (s k : ℕ) (c : CodeTable) (l : List ℕ) (ls : List (List ℕ)) �
 unfolding codes_from
 codes-some s k c l [] h good = absurd (omega arith)
 codes-some s k c l (m ∷ ms) h good =
-    ap {B = CodesReading} (λ (b : Bool). elim b [ true ↦ codes_from (s + 1) k (with_code s (set_of one (get_or (fields_of l) 2 [])) c) (m ∷ ms) | false ↦ codes_refused (s + 1) ]) good
+    ap {B = CodesReading} (λ (b : Bool). elim b [ true ↦ codes_from (s + 1) k (with_code s (set_of one (get_or (fields_of l) 2 [])) c) (m ∷ ms) | false ↦ refused BadLine (s + 1) ]) good
 
 -- the table of some codes, of so many bits
 abbrev table_of : ℕ → List ℕ → CodeTable
@@ -153,9 +155,9 @@ module _ (bits : List ℕ) (narrow : length bits ≤ most_bits) where
   lines_left s k = omega (arith, length-append (map (code_line bits) (states_from s k)) ([] ∷ []))
 
   from_back : (k s : ℕ) (done : List ℕ) → length done ≡ s → s + k ≤ most_states
-      → codes_from s k (table_of (length bits) done) (map (code_line bits) (states_from s k) ++ ([] ∷ [])) ≡ codes_read (table_of (length bits) (done ++ map (code_number bits) (states_from s k)))
+      → codes_from s k (table_of (length bits) done) (map (code_line bits) (states_from s k) ++ ([] ∷ [])) ≡ Ok (table_of (length bits) (done ++ map (code_number bits) (states_from s k)))
   unfolding codes_from states_from nothing
-  from_back zero s done e h = ap (λ (l : List ℕ). codes_read (table_of (length bits) l)) (sym (append-nil done))
+  from_back zero s done e h = ap (λ (l : List ℕ). Ok (table_of (length bits) l)) (sym (append-nil done))
   from_back (suc k) s done e h =
       let x : ℕ = code_number bits s in
       let rest : List (List ℕ) = map (code_line bits) (states_from (suc s) k) ++ ([] ∷ []) in
@@ -165,9 +167,9 @@ module _ (bits : List ℕ) (narrow : length bits ≤ most_bits) where
       ∙ ap (λ (fs : List (List ℕ)). codes_from (s + 1) k (with_code s (set_of one (get_or fs 2 [])) (table_of (length bits) done)) rest) (line-fields bits s)
       ∙ ap₂ (λ (i : ℕ) (c : CodeTable). codes_from i k c rest) next (grown done x s e (omega arith))
       ∙ from_back k (suc s) (done ++ (x ∷ [])) done_next (omega arith)
-      ∙ ap (λ (l : List ℕ). codes_read (table_of (length bits) l)) (append_assoc done (x ∷ []) (map (code_number bits) (states_from (suc s) k)))
+      ∙ ap (λ (l : List ℕ). Ok (table_of (length bits) l)) (append_assoc done (x ∷ []) (map (code_number bits) (states_from (suc s) k)))
 
-pub codes-back : (n : ℕ) (bits : List ℕ) → 1 ≤ n → n ≤ most_states → length bits ≤ most_bits → codes_reading n (lines_of (codes_text n bits)) ≡ codes_read (codes_said n bits)
+pub codes-back : (n : ℕ) (bits : List ℕ) → 1 ≤ n → n ≤ most_states → length bits ≤ most_bits → codes_reading n (lines_of (codes_text n bits)) ≡ Ok (codes_said n bits)
 unfolding codes_reading states_from
 codes-back zero bits some few narrow = absurd (omega arith)
 codes-back (suc n) bits some few narrow =

@@ -23,7 +23,7 @@ use Rattle.rules.specs.CheckTexts.{number_behind, places_fit, row_good, no_heads
 use Rattle.rules.specs.declared.Head.{Head}
 use Rattle.rules.specs.declared.Row.{Row}
 use Rattle.rules.specs.declared.Listing.{Listing}
-use Rattle.rules.specs.declared.Verdict.{Verdict}
+use Rattle.rules.specs.Refusals.{refused}
 use Rattle.rules.specs.declared.CoverPart.{CoverPart}
 use Rattle.rules.specs.declared.CoverPart.TheVariants.{Outputs, Kind, Products, Rows, Over}
 use Rattle.rules.specs.declared.CoverHeads.{CoverHeads}
@@ -157,7 +157,7 @@ module _ (head : Head) (bits : List ℕ) (rs : List Row) (r : Row) where
 cover-some : (i o k : ℕ) (h g : CoverHeads) (l : List ℕ) (ls : List (List ℕ)) → 1 ≤ length ls → cover_line h l ≡ Ok g → cover_from i o k h (l ∷ ls) ≡ cover_from i o (k + 1) g ls
 unfolding cover_from
 cover-some i o k h g l [] some e = absurd (omega arith)
-cover-some i o k h g l (m ∷ ms) some e = ap (λ (x : Result CoverHeads Refusal). elim x [ Ok g ↦ cover_from i o (k + 1) g (m ∷ ms) | Err r ↦ Verdict.Refused r k ]) e
+cover-some i o k h g l (m ∷ ms) some e = ap (λ (x : Result CoverHeads Refusal). elim x [ Ok g ↦ cover_from i o (k + 1) g (m ∷ ms) | Err r ↦ refused r k ]) e
 
 module _ (i o p : ℕ) where
   -- behind so many rows
@@ -173,12 +173,12 @@ module _ (i o p : ℕ) where
   end-taken m e = rw (eq-eqb m p e) refl
 
   -- nothing behind `.e`
-  over : (k m : ℕ) → cover_from i o k (in_part Over (behind m)) ([] ∷ []) ≡ Verdict.Accepted
+  over : (k m : ℕ) → cover_from i o k (in_part Over (behind m)) ([] ∷ []) ≡ Ok tt
   unfolding cover_from cover_end is_over fitting
   over k m = rw (eq-eqb i i refl, eq-eqb o o refl) refl
 
   rows_back : {A : Type 0} (f : A → List ℕ) → ((a : A) → same (f a) (bytes ".e") ≡ false) → ((a : A) (m : ℕ) → row_good (behind m) (f a) ≡ true) → (xs : List A) (k m : ℕ)
-      → m + length xs ≡ p → p ≤ most_checked → cover_from i o k (behind m) (map f xs ++ (bytes ".e" ∷ ([] ∷ []))) ≡ Verdict.Accepted
+      → m + length xs ≡ p → p ≤ most_checked → cover_from i o k (behind m) (map f xs ++ (bytes ".e" ∷ ([] ∷ []))) ≡ Ok tt
   rows_back f other good [] k m e few = cover-some i o k (behind m) (in_part Over (behind m)) (bytes ".e") ([] ∷ []) (omega arith) (end-taken m (omega arith)) ∙ over (k + 1) m
   rows_back f other good (x ∷ rest) k m e few =
       let ls : List (List ℕ) = map f rest ++ (bytes ".e" ∷ ([] ∷ [])) in
@@ -210,7 +210,7 @@ heads-back i o p body few-in few-out few some =
     count = bytes ".p " ++ decimal p
 
 pub cover-back : (t : Listing) (bits : List ℕ) → Sound t → length bits ≤ most_bits
-    → cover_reading (t.head.inputs + length bits) (length bits + t.head.outputs) (lines_of (cover t bits)) ≡ Verdict.Accepted
+    → cover_reading (t.head.inputs + length bits) (length bits + t.head.outputs) (lines_of (cover t bits)) ≡ Ok tt
 cover-back t bits sound narrow =
     ap (cover_reading i o) (cover-lines t bits)
     ∙ heads-back i o (length rows) (map row rows ++ (bytes ".e" ∷ ([] ∷ []))) (omega arith) (omega arith) (omega (arith, few)) (omega (arith, length-append (map row rows) (bytes ".e" ∷ ([] ∷ []))))

@@ -3,7 +3,6 @@
 use mathlib.Core.Path.{◌≡◌, refl, sym, ap, ap₂, ◌∙◌}
 use mathlib.Core.Logic.{◌↔◌, ◌⊎◌, inl, inr, ⊎_elim}
 use mathlib.Core.Bool.{Bool, true, false, true≢false}
-use mathlib.Core.List.Memᴰ
 use mathlib.Core.List.{List, [], ◌∷◌, map, Memᴰ}
 use Prim.Native.Nat.{ℕ, zero, suc, ◌+◌, ◌≤◌, ◌<◌}
 use native.Mathlib.Decide.{ℕ_discrete}
@@ -21,6 +20,7 @@ use Rattle.rules.proofs.Asked.{state-below}
 use Rattle.rules.proofs.Unmet.{met-by-none}
 use Rattle.rules.proofs.Faces.{Distinct, AllMet}
 use Rattle.rules.proofs.Granted.{all-met, none-unmet, distinct-codes}
+use mathlib.Core.List.Memᴰ
 
 -- ---- one pair
 

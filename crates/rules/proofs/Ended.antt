@@ -1,7 +1,6 @@
 -- Lines that end in LF and have no other: a line stands in their text exactly where it is one of them.
 use mathlib.Core.Path.{◌≡◌, refl, sym, ap, ◌∙◌}
 use mathlib.Core.Logic.{⊎_elim}
-use mathlib.Core.List.Memᴰ
 use mathlib.Core.List.{List, [], ◌∷◌, ◌++◌, map, append_assoc, Memᴰ}
 use Prim.Native.Nat.{ℕ, ◌<◌}
 use native.Mathlib.Omega.{arith}
@@ -9,6 +8,7 @@ use Rattle.rules.specs.Text.{lf, space, split, lines_of, decimal}
 use Rattle.rules.specs.Report.{joined_lines}
 use Rattle.rules.proofs.Fields.{Without, none, more, split-part}
 use Rattle.rules.proofs.Decimal.{decimal-without}
+use mathlib.Core.List.Memᴰ
 
 -- a text has the line l, which ends in LF
 abbrev pub HasLine : List ℕ → List ℕ → Type 0

@@ -1,7 +1,7 @@
 -- What an accepted flow table gives: a listing without rows, whose requirements are the pairs of its states and then the dichotomies of its columns, in which each destination is
 -- stable.
-use Rattle.std.specs.Prelude.{Ok}
-use mathlib.Core.Path.{◌≡◌, refl, sym, ap, ◌∙◌}
+use Rattle.std.specs.Prelude.{Ok, Err}
+use mathlib.Core.Path.{◌≡◌, refl, sym, ap, ◌∙◌, subst}
 use mathlib.Core.Bool.{Bool, true, false, cond}
 use mathlib.Core.List.{List, [], ◌∷◌, ◌++◌, append_assoc}
 use Prim.Native.Nat.{ℕ, zero, suc, ◌+◌, ◌≤◌, ◌<◌}
@@ -17,17 +17,15 @@ use Rattle.rules.specs.Limits.{most_bytes, most_dichotomies}
 use Rattle.rules.specs.Text.{lines_of, mark_of, mark_is}
 use Rattle.rules.specs.FlowTable.{flow_asks, goes_well, stability}
 use Rattle.rules.specs.FlowLines.{flow_head, column_count, columns_of, FlowStep, flow_goes, flow_ends, flow_stops, flow_placed}
-use Rattle.rules.specs.Listing.{no_requirement, blank, with_head, with_dichotomy, rows_of, dichotomies_of, accepted, refused, nothing, conflict, judged, checked, read_all, reading}
-use Rattle.rules.specs.Listing.{with_dichotomies, flow_step, flow_gives, flow_read, flow_ended, flow_unended, flow_lines}
+use Rattle.rules.specs.Listing.{no_requirement, blank, with_head, with_dichotomy, rows_of, dichotomies_of, nothing, conflict, judged, checked, read_all, reading, with_dichotomies, flow_step, flow_gives, flow_read, flow_ended, flow_unended, flow_lines, Reading}
 use Rattle.rules.specs.Requirements.{pairs, groups, pairs_and_groups, requirements}
 use Rattle.rules.specs.declared.Head.{Head}
 use Rattle.rules.specs.declared.Requirement.{Requirement}
 use Rattle.rules.specs.declared.Listing.{Listing}
-use Rattle.rules.specs.declared.Refusal.{Refusal}
 use Rattle.rules.specs.declared.Refusal.TheVariants.{BadLine, Limit, Place, Unstable}
-use Rattle.rules.specs.declared.Verdict.{Verdict}
-use Rattle.rules.specs.declared.Reading.{Reading}
+use Rattle.rules.specs.Refusals.{Verdict, refused}
 use Rattle.rules.proofs.Sound.{flow_after, flow-on, flow-none, flow-last, read_by, all_two}
+use Rattle.std.specs.Result.{IfOk}
 
 -- the bytes s are a flow table, with the head h and these columns
 pub record IsFlow (s : List ℕ) (h : Head) (columns : List (List ℕ)) : Type 0 where
@@ -81,13 +79,13 @@ asked-all h ds l =
 
 -- ---- each destination is stable
 
-well : (columns : List (List ℕ)) (a k : ℕ) → stability columns (states_from a k) ≡ Verdict.Accepted → (s : ℕ) → a ≤ s → s < a + k → goes_well columns s ≡ true
+well : (columns : List (List ℕ)) (a k : ℕ) → stability columns (states_from a k) ≡ Ok tt → (s : ℕ) → a ≤ s → s < a + k → goes_well columns s ≡ true
 unfolding stability states_from
 well columns a zero e s h l = absurd (omega arith)
 well columns a (suc k) e s h l = go (goes_well columns a) refl e (ℕ_discrete s a) (λ q o. well columns (suc a) k q s (omega arith) (omega arith))
   where
-    go : (b : Bool) → goes_well columns a ≡ b → elim b as (λ _. Verdict) [ true ↦ stability columns (states_from (suc a) k) | false ↦ Verdict.Refused Unstable (a + 2) ] ≡ Verdict.Accepted
-        → Dec (s ≡ a) → (stability columns (states_from (suc a) k) ≡ Verdict.Accepted → (s ≡ a → ⊥) → goes_well columns s ≡ true) → goes_well columns s ≡ true
+    go : (b : Bool) → goes_well columns a ≡ b → elim b as (λ _. Verdict) [ true ↦ stability columns (states_from (suc a) k) | false ↦ refused Unstable (a + 2) ] ≡ Ok tt
+        → Dec (s ≡ a) → (stability columns (states_from (suc a) k) ≡ Ok tt → (s ≡ a → ⊥) → goes_well columns s ≡ true) → goes_well columns s ≡ true
     go true q e (yes p) f = ap (goes_well columns) p ∙ q
     go true q e (no o) f = f e o
     go false q e d f = absurd (let z : ◌≡◌ {A = ℕ} 0 1 = cc in omega arith)
@@ -95,30 +93,26 @@ well columns a (suc k) e s h l = go (goes_well columns a) refl e (ℕ_discrete s
 -- ---- the lines
 
 abbrev Gives : Head → List (List ℕ) → Reading → Type 0
-Gives h columns r = r.verdict ≡ Verdict.Accepted → FlowGiven h columns r.listing
-
-refused-gives : (h : Head) (columns : List (List ℕ)) (f : Refusal) (k : ℕ) → Gives h columns (refused f k)
-unfolding refused
-refused-gives h columns f k e = absurd (let z : ◌≡◌ {A = ℕ} 0 1 = cc in omega arith)
+Gives h columns r = IfOk r (FlowGiven h columns)
 
 read-gives : (h : Head) (columns : List (List ℕ)) → Gives h columns (flow_read h columns)
 unfolding flow_read flow_gives blank
 read-gives h columns = go (stability columns (states_from 0 h.states)) refl
   where
-    gives : (b : Bool) → leb (length (flow_asks columns)) most_dichotomies ≡ b → stability columns (states_from 0 h.states) ≡ Verdict.Accepted
-        → Gives h columns (cond b (accepted (with_dichotomies (flow_asks columns) (with_head h blank))) (refused Limit 0))
-    gives true l q = λ e. record {
+    gives : (b : Bool) → leb (length (flow_asks columns)) most_dichotomies ≡ b → stability columns (states_from 0 h.states) ≡ Ok tt
+        → Gives h columns (cond b (Ok (with_dichotomies (flow_asks columns) (with_head h blank))) (refused Limit 0))
+    gives true l q = record {
       head = same_head (flow_asks columns) (with_head h blank);
       no_rows = same_rows (flow_asks columns) (with_head h blank);
       asked = asked-all h (flow_asks columns) (leb-true (length (flow_asks columns)) most_dichotomies l);
       stable = λ s p. well columns 0 h.states q s (omega arith) (omega arith);
     }
-    gives false l q = refused-gives h columns Limit 0
+    gives false l q = tt
 
     go : (v : Verdict) → stability columns (states_from 0 h.states) ≡ v
-        → Gives h columns (elim v as (λ _. Reading) [ Verdict.Accepted ↦ flow_gives h (flow_asks columns) | Verdict.Refused r k ↦ refused r k ])
-    go Verdict.Accepted q = gives (leb (length (flow_asks columns)) most_dichotomies) refl q
-    go (Verdict.Refused r k) q = refused-gives h columns r k
+        → Gives h columns (elim v as (λ _. Reading) [ Ok _ ↦ flow_gives h (flow_asks columns) | Err why ↦ Err why ])
+    go (Ok tt) q = gives (leb (length (flow_asks columns)) most_dichotomies) refl q
+    go (Err why) q = tt
 
 module _ (h : Head) (all : List (List ℕ)) where
   columns-in : List (List ℕ)
@@ -130,44 +124,38 @@ module _ (h : Head) (all : List (List ℕ)) where
     where
       go : (b : Bool) → Gives h (columns_of h.states (column_count all) (take h.states all)) (cond b (flow_read h (columns_of h.states (column_count all) (take h.states all))) (refused Place (k + 1)))
       go true = read-gives h (columns_of h.states (column_count all) (take h.states all))
-      go false = refused-gives h (columns_of h.states (column_count all) (take h.states all)) Place (k + 1)
+      go false = tt
 
   unended-gives : (k : ℕ) (l : List ℕ) → Gives h columns-in (flow_unended k h.states l)
   unfolding flow_unended
-  unended-gives k [] = refused-gives h columns-in Place k
+  unended-gives k [] = tt
   unended-gives k (x ∷ xs) = go (flow_placed (mark_is (mark_of (x ∷ xs))) k h.states)
     where
       go : (b : Bool) → Gives h columns-in (cond b (refused BadLine k) (refused Place k))
-      go true = refused-gives h columns-in BadLine k
-      go false = refused-gives h columns-in Place k
+      go true = tt
+      go false = tt
 
   lines-give : (k : ℕ) (ls : List (List ℕ)) → Gives h columns-in (flow_lines k h all ls)
   unfolding flow_after
-  lines-give k [] = rw (flow-none k h all) (refused-gives h columns-in Place k)
+  lines-give k [] = rw (flow-none k h all) tt
   lines-give k (l ∷ []) = rw (flow-last k h all l) (unended-gives k l)
   lines-give k (l ∷ (m ∷ ms)) = rw (flow-on k h all l m ms) (go (flow_step k h.states (column_count all) l) (lines-give (k + 1) (m ∷ ms)))
     where
       go : (x : FlowStep) → Gives h columns-in (flow_lines (k + 1) h all (m ∷ ms)) → Gives h columns-in (flow_after k h all (m ∷ ms) x)
       go flow_goes g = g
       go flow_ends g = ended-gives k (m ∷ ms)
-      go (flow_stops r) g = refused-gives h columns-in r k
+      go (flow_stops r) g = tt
 
 -- ---- the whole
 
 checked-gives : (h : Head) (columns : List (List ℕ)) (r : Reading) → Gives h columns r → Gives h columns (checked r)
-unfolding conflict refused
-checked-gives h columns r g = go r.verdict refl
+unfolding conflict
+checked-gives h columns (Ok t) g = judge (conflict (rows_of t)) g
   where
-    t : Listing
-    t = r.listing
-
     judge : (v : Verdict) → FlowGiven h columns t → Gives h columns (judged v t)
-    judge Verdict.Accepted f = λ e. f
-    judge (Verdict.Refused f k) _ = refused-gives h columns f k
-
-    go : (v : Verdict) → r.verdict ≡ v → Gives h columns (elim v as (λ _. Reading) [ Verdict.Accepted ↦ judged (conflict (rows_of t)) t | Verdict.Refused f k ↦ refused f k ])
-    go Verdict.Accepted e = judge (conflict (rows_of t)) (g e)
-    go (Verdict.Refused f k) e = refused-gives h columns f k
+    judge (Ok _) f = f
+    judge (Err why) f = tt
+checked-gives h columns (Err why) g = tt
 
 all_give : (s : List ℕ) (h : Head) (columns : List (List ℕ)) → IsFlow s h columns → Gives h columns (read_all (lines_of s))
 unfolding read_by columns-in
@@ -175,10 +163,13 @@ all_give s h columns f =
     rw (f.lines, all_two f.first f.second f.others, f.head, f.is) (lines-give h (f.second ∷ f.others) 2 (f.second ∷ f.others))
 
 -- whatever the bytes
-pub flow-given : (s : List ℕ) (h : Head) (columns : List (List ℕ)) → IsFlow s h columns → (reading s).verdict ≡ Verdict.Accepted → FlowGiven h columns (reading s).listing
+reading-gives : (s : List ℕ) (h : Head) (columns : List (List ℕ)) → IsFlow s h columns → Gives h columns (reading s)
 unfolding reading
-flow-given s h columns f = go (leb (length s) most_bytes)
+reading-gives s h columns f = go (leb (length s) most_bytes)
   where
     go : (b : Bool) → Gives h columns (cond b (checked (read_all (lines_of s))) (refused Limit 0))
     go true = checked-gives h columns (read_all (lines_of s)) (all_give s h columns f)
-    go false = refused-gives h columns Limit 0
+    go false = tt
+
+pub flow-given : (s : List ℕ) (h : Head) (columns : List (List ℕ)) → IsFlow s h columns → {t : Listing} → reading s ≡ Ok t → FlowGiven h columns t
+flow-given s h columns f e = subst (Gives h columns) e (reading-gives s h columns f)

@@ -2,7 +2,6 @@
 use mathlib.Core.Path.{◌≡◌, refl, sym, ap, subst, ◌∙◌}
 use mathlib.Core.Logic.{◌⊎◌, inl, inr, ⊎_elim}
 use mathlib.Core.Bool.{Bool, true, false, ◌&&◌}
-use mathlib.Core.List.Memᴰ
 use mathlib.Core.List.{List, [], ◌∷◌, map, Memᴰ}
 use Prim.Native.Nat.{ℕ, ◌^◌, ◌≤◌, ◌<◌}
 use native.Mathlib.Decide.{ℕ_discrete}
@@ -20,6 +19,7 @@ use Rattle.rules.specs.FlowTable.{no_state, is_state, destinations_from, sets_of
 use Rattle.rules.specs.declared.Requirement.{Requirement}
 use Rattle.rules.proofs.Characters.{set-lt, set_apart}
 use Rattle.rules.proofs.SoundLines.{SoundBlocks}
+use mathlib.Core.List.Memᴰ
 
 -- ---- the destinations
 

@@ -2,9 +2,7 @@
 use mathlib.Core.Path.{◌≡◌, refl, sym, ap, ◌∙◌}
 use mathlib.Core.Logic.{⊎_elim}
 use mathlib.Core.Bool.{Bool, true, false}
-use mathlib.Core.List.{List, [], ◌∷◌, head-eq_of_cons-eq, tail-eq_of_cons-eq, cons≢nil}
-use mathlib.Core.List.Memᴰ
-use mathlib.Core.List.{Memᴰ}
+use mathlib.Core.List.{List, [], ◌∷◌, head-eq_of_cons-eq, tail-eq_of_cons-eq, cons≢nil, Memᴰ}
 use Prim.Native.Nat.{ℕ, zero, suc, ◌<◌}
 use native.Mathlib.Decide.{dec_lt}
 use native.Mathlib.Omega.{arith}
@@ -21,6 +19,7 @@ use Rattle.rules.proofs.Blocks.{met_by}
 use Rattle.rules.proofs.Asked.{pair-asked, group-asked}
 use Rattle.rules.proofs.Unmet.{listed-met, listed-unmet}
 use Rattle.rules.proofs.Faces.{Distinct, AllMet, GroupMet}
+use mathlib.Core.List.Memᴰ
 
 -- with none listed unmet, all are met
 pub all-met : (k n : ℕ) (bits : List ℕ) (rs : List Requirement) → unmet_from k n bits rs ≡ [] → AllMet n bits rs

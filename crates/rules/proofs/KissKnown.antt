@@ -5,13 +5,12 @@ use Prim.Native.Nat.{ℕ}
 use Prim.Native.String.{String}
 use Rattle.rules.specs.Text.{bytes}
 use Rattle.rules.specs.Refusals.{number}
-use Rattle.rules.specs.Listing.{rows_of}
+use Rattle.rules.specs.Listing.{rows_of, Reading}
 use Rattle.rules.specs.Kiss.{kiss_reading}
 use Rattle.rules.specs.Answers.{printed}
 use Rattle.rules.specs.KissAnswers.{kiss_names_reply}
 use Rattle.rules.specs.declared.Row.{Row}
-use Rattle.rules.specs.declared.Listing.{Listing}
-use Rattle.rules.specs.declared.Verdict.{Verdict}
+use Rattle.std.specs.Prelude.{Ok, Err}
 
 -- a text, and what is read: a refusal's number and its line; or 0, states, inputs, outputs, and for each row its line, input, group, next state and outputs
 pub record Case : Type 0 where
@@ -25,14 +24,14 @@ unfoldable pub numbers_of_rows : List Row → List ℕ
 numbers_of_rows [] = []
 numbers_of_rows (r ∷ rs) = r.line ∷ r.input.ones ∷ r.input.dashes ∷ r.group ∷ r.next ∷ r.outputs.ones ∷ r.outputs.dashes ∷ numbers_of_rows rs
 
-unfoldable pub numbers_of : Verdict → Listing → List ℕ
+unfoldable pub numbers_of : Reading → List ℕ
 unfolding numbers_of_rows
-numbers_of Verdict.Accepted t = 0 ∷ t.head.states ∷ t.head.inputs ∷ t.head.outputs ∷ numbers_of_rows (rows_of t)
-numbers_of (Verdict.Refused r k) t = number r ∷ k ∷ []
+numbers_of (Ok t) = 0 ∷ t.head.states ∷ t.head.inputs ∷ t.head.outputs ∷ numbers_of_rows (rows_of t)
+numbers_of (Err why) = number why.refusal ∷ why.line ∷ []
 
 unfoldable pub answer_of : Case → List ℕ
 unfolding numbers_of kiss_reading
-answer_of c = numbers_of (kiss_reading (bytes c.text)).verdict (kiss_reading (bytes c.text)).listing
+answer_of c = numbers_of (kiss_reading (bytes c.text))
 
 abbrev pub cases : List Case
 cases =

@@ -1,5 +1,5 @@
 -- What an accepted KISS2 text grants: a sound listing without a conflict, so that all that is proved of listings holds of it; and the line of a refusal is small.
-use Rattle.std.specs.Prelude.{Option, Some, None}
+use Rattle.std.specs.Prelude.{Option, Some, None, Ok, Err}
 use mathlib.Core.Path.{◌≡◌, refl, ap, ◌∙◌, subst}
 use mathlib.Core.Bool.{Bool, true, false, ◌&&◌, ◌||◌, not, cond, false≢true}
 use mathlib.Core.List.{List, [], ◌∷◌, ◌++◌, map}
@@ -20,12 +20,9 @@ use Rattle.sets.proofs.Places.{map_at}
 use Rattle.sets.proofs.Size.{size-zero, size-only}
 use Rattle.rules.specs.Limits.{most_bytes, most_states, most_inputs, most_outputs, most_rows, most_dichotomies, most_name}
 use Rattle.rules.specs.Text.{nought, one, dash, same, lines_of, mark_of, fields_of, field_at, sized}
-use Rattle.rules.specs.Listing.{no_pattern, no_row, no_requirement, rows_of, refused, nothing, complete, conflict, or_else, judged}
+use Rattle.rules.specs.Listing.{no_pattern, no_row, no_requirement, rows_of, nothing, complete, conflict, or_else, judged, Reading}
 use Rattle.rules.specs.KissLines.{kiss_mark, number_line, is_star, is_filled, is_short, reset_fits, row_fields_fit}
-use Rattle.rules.specs.Kiss.{Draft, no_draft, with_inputs, with_outputs, with_states, with_products, with_line, with_heads}
-use Rattle.rules.specs.Kiss.{number_of, named, present_of, next_of, place_of, joined, KissStep, goes, ends, stops, row_joins, pattern_of, row_does}
-use Rattle.rules.specs.Kiss.{on_number, inputs_do, outputs_do, reset_does, end_does, row_line_does, kiss_placed, kiss_does, kiss_step}
-use Rattle.rules.specs.Kiss.{cut_to, listing_of, disagrees, disagreement, kiss_made, kiss_ended, kiss_unended, kiss_lines, kiss_reading}
+use Rattle.rules.specs.Kiss.{Draft, no_draft, with_inputs, with_outputs, with_states, with_products, with_line, with_heads, number_of, named, present_of, next_of, place_of, joined, KissStep, goes, ends, stops, row_joins, pattern_of, row_does, on_number, inputs_do, outputs_do, reset_does, end_does, row_line_does, kiss_placed, kiss_does, kiss_step, cut_to, listing_of, disagrees, disagreement, kiss_made, kiss_ended, kiss_unended, kiss_lines, kiss_reading}
 use Rattle.rules.specs.declared.Head.{Head}
 use Rattle.rules.specs.declared.KissHeads.{KissHeads}
 use Rattle.rules.specs.declared.KissMark.{KissMark}
@@ -35,8 +32,7 @@ use Rattle.rules.specs.declared.Row.{Row}
 use Rattle.rules.specs.declared.Listing.{Listing}
 use Rattle.rules.specs.declared.Refusal.{Refusal}
 use Rattle.rules.specs.declared.Refusal.TheVariants.{BadLine, Limit, Place, Names}
-use Rattle.rules.specs.declared.Verdict.{Verdict}
-use Rattle.rules.specs.declared.Reading.{Reading}
+use Rattle.rules.specs.Refusals.{Verdict, refused}
 use Rattle.rules.proofs.FirstPlace.{place-most}
 use Rattle.rules.proofs.SoundLines.{SoundPattern, SoundRow, no-pattern, pattern}
 use Rattle.rules.proofs.Sound.{Sound, none_said}
@@ -516,7 +512,7 @@ disagrees-within : (m : ℕ) (t : Told) (count : ℕ) → t.line ≤ m → AtMos
 unfolding disagrees
 disagrees-within m t count h = go (eqb t.line 0 || eqb t.number count)
   where
-    go : (b : Bool) → AtMost m (cond b Verdict.Accepted (Verdict.Refused Names t.line))
+    go : (b : Bool) → AtMost m (cond {A = Verdict} b (Ok tt) (refused Names t.line))
     go true = tt
     go false = h
 
@@ -529,24 +525,22 @@ disagreement-within m h n a b = go (ltb h.states.line h.products.line)
     go false = or-within m (disagrees h.products h.lines) (disagrees h.states n) (disagrees-within m h.products h.lines b) (disagrees-within m h.states n a)
 
 -- an accepted reading, and the line of a refused one
-record Good (m : ℕ) (r : Reading) : Type 0 where
-  sound : r.verdict ≡ Verdict.Accepted → Sound r.listing
-  whole : r.verdict ≡ Verdict.Accepted → complete r.listing.head r.listing.given ≡ true
-  apart : r.verdict ≡ Verdict.Accepted → conflict (rows_of r.listing) ≡ Verdict.Accepted
-  line : AtMost m r.verdict
+record Accepted (t : Listing) : Type 0 where
+  sound : Sound t
+  whole : complete t.head t.given ≡ true
+  apart : conflict (rows_of t) ≡ Ok tt
 
-refused-good : (m : ℕ) (f : Refusal) (k : ℕ) → k ≤ m → Good m (refused f k)
-unfolding refused
-refused-good m f k h = record { sound = λ e. absurd (not-accepted f k e); whole = λ e. absurd (not-accepted f k e); apart = λ e. absurd (not-accepted f k e); line = h }
+abbrev Good : ℕ → Reading → Type 0
+Good m (Ok t) = Accepted t
+Good m (Err why) = why.line ≤ m
 
-or-second : (v w : Verdict) → or_else v w ≡ Verdict.Accepted → w ≡ Verdict.Accepted
-or-second Verdict.Accepted w e = e
-or-second (Verdict.Refused r k) w e = absurd (not-accepted r k e)
+or-second : (v w : Verdict) → or_else v w ≡ Ok tt → w ≡ Ok tt
+or-second (Ok _) w e = e
+or-second (Err why) w e = absurd (not-accepted e)
 
-judged-good : (m : ℕ) (v : Verdict) (t : Listing) → Sound t → complete t.head t.given ≡ true → (v ≡ Verdict.Accepted → conflict (rows_of t) ≡ Verdict.Accepted) → AtMost m v → Good m (judged v t)
-unfolding refused
-judged-good m Verdict.Accepted t s c f h = record { sound = λ e. s; whole = λ e. c; apart = λ e. f refl; line = tt }
-judged-good m (Verdict.Refused r k) t s c f h = refused-good m r k h
+judged-good : (m : ℕ) (v : Verdict) (t : Listing) → Sound t → complete t.head t.given ≡ true → (v ≡ Ok tt → conflict (rows_of t) ≡ Ok tt) → AtMost m v → Good m (judged v t)
+judged-good m (Ok tt) t s c f h = record { sound = s; whole = c; apart = f refl }
+judged-good m (Err why) t s c f h = h
 
 made-good : (m : ℕ) (d : Draft) → SoundDraft m d → Headed d → Good m (kiss_made d.heads (length d.names) d.rows d.table)
 unfolding kiss_made
@@ -562,16 +556,16 @@ ended-good m k d rest l s h = go (nothing rest)
   where
     go : (b : Bool) → Good m (cond b (kiss_made d.heads (length d.names) d.rows d.table) (refused Place (k + 1)))
     go true = made-good m d s h
-    go false = refused-good m Place (k + 1) (omega arith)
+    go false = omega arith
 
 unended-good : (m k : ℕ) (h : KissHeads) (l : List ℕ) → k ≤ m → Good m (kiss_unended k h l)
 unfolding kiss_unended
-unended-good m k h [] g = refused-good m Place k g
+unended-good m k h [] g = g
 unended-good m k h (x ∷ xs) g = go (kiss_placed (kiss_mark (mark_of (x ∷ xs))) h)
   where
     go : (b : Bool) → Good m (cond b (refused BadLine k) (refused Place k))
-    go true = refused-good m BadLine k g
-    go false = refused-good m Place k g
+    go true = g
+    go false = g
 
 -- what follows line k
 unfoldable after : ℕ → Draft → List (List ℕ) → KissStep → Reading
@@ -591,14 +585,14 @@ reads-last k d l = refl
 
 lines-good : (m k : ℕ) (d : Draft) (ls : List (List ℕ)) → k + length ls ≤ m → SoundDraft m d → Good m (kiss_lines k d ls)
 unfolding after
-lines-good m k d [] h s = rw (reads_none k d) (refused-good m Place k (omega arith))
+lines-good m k d [] h s = rw (reads_none k d) (omega arith)
 lines-good m k d (l ∷ []) h s = rw (reads-last k d l) (unended-good m k d.heads l (omega arith))
 lines-good m k d (l ∷ (x ∷ xs)) h s = rw (reads_on k d l x xs) (go (kiss_step k d l) refl (λ u. lines-good m (k + 1) u (x ∷ xs) (omega arith)))
   where
     go : (y : KissStep) → kiss_step k d l ≡ y → ((u : Draft) → SoundDraft m u → Good m (kiss_lines (k + 1) u (x ∷ xs))) → Good m (after k d (x ∷ xs) y)
     go (goes u) e f = f u (step-sound m k d l u (omega arith) s e)
     go ends e f = ended-good m k d (x ∷ xs) (omega arith) s (step_end k d l e)
-    go (stops r) e f = refused-good m r k (omega arith)
+    go (stops r) e f = omega arith
 
 -- whatever the bytes
 kiss-good : (s : List ℕ) → Good (most_bytes + 2) (kiss_reading s)
@@ -607,16 +601,19 @@ kiss-good s = go (leb (length s) most_bytes) refl
   where
     go : (b : Bool) → leb (length s) most_bytes ≡ b → Good (most_bytes + 2) (cond b (kiss_lines 1 no_draft (lines_of s)) (refused Limit 0))
     go true e = lines-good (most_bytes + 2) 1 no_draft (lines_of s) (omega (arith, leb-true (length s) most_bytes e, split-length 10 s)) (none-sound (most_bytes + 2))
-    go false e = refused-good (most_bytes + 2) Limit 0 (omega arith)
+    go false e = omega arith
 
-pub kiss-sound : (s : List ℕ) → (kiss_reading s).verdict ≡ Verdict.Accepted → Sound (kiss_reading s).listing
-kiss-sound s e = (kiss-good s).sound e
+kiss-accepted : (s : List ℕ) {t : Listing} → kiss_reading s ≡ Ok t → Accepted t
+kiss-accepted s e = subst (Good (most_bytes + 2)) e (kiss-good s)
 
-pub kiss-complete : (s : List ℕ) → (kiss_reading s).verdict ≡ Verdict.Accepted → complete (kiss_reading s).listing.head (kiss_reading s).listing.given ≡ true
-kiss-complete s e = (kiss-good s).whole e
+pub kiss-sound : (s : List ℕ) {t : Listing} → kiss_reading s ≡ Ok t → Sound t
+kiss-sound s e = (kiss-accepted s e).sound
 
-pub kiss-agrees : (s : List ℕ) → (kiss_reading s).verdict ≡ Verdict.Accepted → conflict (rows_of (kiss_reading s).listing) ≡ Verdict.Accepted
-kiss-agrees s e = (kiss-good s).apart e
+pub kiss-complete : (s : List ℕ) {t : Listing} → kiss_reading s ≡ Ok t → complete t.head t.given ≡ true
+kiss-complete s e = (kiss-accepted s e).whole
 
-pub kiss-line : (s : List ℕ) (r : Refusal) (k : ℕ) → (kiss_reading s).verdict ≡ Verdict.Refused r k → k < 100000
-kiss-line s r k e = let h : k ≤ most_bytes + 2 = subst (AtMost (most_bytes + 2)) e (kiss-good s).line in omega arith
+pub kiss-agrees : (s : List ℕ) {t : Listing} → kiss_reading s ≡ Ok t → conflict (rows_of t) ≡ Ok tt
+kiss-agrees s e = (kiss-accepted s e).apart
+
+pub kiss-line : (s : List ℕ) (r : Refusal) (k : ℕ) → kiss_reading s ≡ refused r k → k < 100000
+kiss-line s r k e = let h : k ≤ most_bytes + 2 = subst (Good (most_bytes + 2)) e (kiss-good s) in omega arith

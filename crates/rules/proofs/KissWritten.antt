@@ -9,16 +9,16 @@ use Rattle.rules.proofs.KissSound.{kiss-sound, kiss-complete, kiss-agrees}
 use Rattle.rules.proofs.Reported.{Reported, replied as report-replied, of-reading as report-of-reading}
 use Rattle.rules.proofs.Written.{Written, replied as cover-replied, of-reading as cover-of-reading}
 
-report-reply : (s : List ℕ) → kiss_report_reply s ≡ report-replied (kiss_reading s) (kiss_reading s).verdict
+report-reply : (s : List ℕ) → kiss_report_reply s ≡ report-replied (kiss_reading s)
 unfolding kiss_report_reply report-replied
 report-reply s = refl
 
-cover-reply : (s : List ℕ) → kiss_cover_reply s ≡ cover-replied (kiss_reading s) (kiss_reading s).verdict
+cover-reply : (s : List ℕ) → kiss_cover_reply s ≡ cover-replied (kiss_reading s)
 unfolding kiss_cover_reply cover-replied
 cover-reply s = refl
 
 pub kiss-reported : (s text : List ℕ) → kiss_report_reply s ≡ says text → Reported (kiss_reading s) text
-kiss-reported s text e = report-of-reading (kiss_reading s) text (kiss_reading s).verdict refl (sym (report-reply s) ∙ e)
+kiss-reported s text e = report-of-reading (kiss_reading s) text (sym (report-reply s) ∙ e)
 
 pub kiss-written : (s text : List ℕ) → kiss_cover_reply s ≡ says text → Written (kiss_reading s) text
-kiss-written s text e = cover-of-reading (kiss_reading s) text (kiss-sound s) (kiss-complete s) (kiss-agrees s) (kiss_reading s).verdict refl (sym (cover-reply s) ∙ e)
+kiss-written s text e = cover-of-reading (kiss_reading s) text (λ t a. (kiss-sound s a, kiss-complete s a, kiss-agrees s a)) (sym (cover-reply s) ∙ e)

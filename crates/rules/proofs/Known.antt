@@ -14,7 +14,7 @@ use Rattle.sets.specs.Sets.{flip}
 use Rattle.sets.proofs.Every.{and_first, and_second}
 use Rattle.rules.specs.Text.{bytes, same, digit, one, plus, dash, set_of}
 use Rattle.rules.specs.Lines.{head_line}
-use Rattle.rules.specs.Listing.{dichotomies_of, reading}
+use Rattle.rules.specs.Listing.{dichotomies_of, reading, Reading}
 use Rattle.rules.specs.Requirements.{group_asks, met_by_code}
 use Rattle.rules.specs.Looks.{looks_at}
 use Rattle.rules.specs.Cover.{face, face_at}
@@ -199,11 +199,16 @@ cases =
 
 -- ---- what a case states
 
+-- the dichotomies of a listing that is read; none where it is refused
+abbrev pub dichotomies_in : Reading → List Requirement
+dichotomies_in (Ok t) = dichotomies_of t
+dichotomies_in (Err why) = []
+
 abbrev pub Holds : Case → Type 0
 Holds (reports listing text) = printed (report_reply (bytes listing)) ≡ bytes text
 Holds (covers listing text) = printed (cover_reply (bytes listing)) ≡ bytes text
 Holds (buys listing text) = printed (widths_reply (bytes listing)) ≡ bytes text
-Holds (gives listing rs) = dichotomies_of (reading (bytes listing)).listing ≡ map asked rs
+Holds (gives listing rs) = dichotomies_in (reading (bytes listing)) ≡ map asked rs
 Holds (leasts listing text) = printed (least_reply (bytes listing)) ≡ bytes text
 Holds (least-covers listing text) = printed (least_cover_reply (bytes listing)) ≡ bytes text
 Holds (replays listing run text) = printed (replay_reply (bytes listing) (bytes run)) ≡ bytes text
@@ -236,7 +241,7 @@ unfolding same reading same_asked report_reply cover_reply widths_reply least_re
 right (reports listing text) = same (printed (report_reply (bytes listing))) (bytes text)
 right (covers listing text) = same (printed (cover_reply (bytes listing))) (bytes text)
 right (buys listing text) = same (printed (widths_reply (bytes listing))) (bytes text)
-right (gives listing rs) = same_asked (dichotomies_of (reading (bytes listing)).listing) (map asked rs)
+right (gives listing rs) = same_asked (dichotomies_in (reading (bytes listing))) (map asked rs)
 right (leasts listing text) = same (printed (least_reply (bytes listing))) (bytes text)
 right (least-covers listing text) = same (printed (least_cover_reply (bytes listing))) (bytes text)
 right (replays listing run text) = same (printed (replay_reply (bytes listing) (bytes run))) (bytes text)

@@ -15,8 +15,7 @@ use Rattle.sets.specs.Sets.{states_from}
 use Rattle.rules.specs.Limits.{most_bytes, most_states, most_dichotomies}
 use Rattle.rules.specs.Text.{push, split, lines_of, mark_of, mark_is}
 use Rattle.rules.specs.Lines.{head_line, row_line, dichotomy_line, outputs_line, end_line}
-use Rattle.rules.specs.Listing.{no_row, blank, with_head, with_row, with_dichotomy, rows_of, accepted, refused, Step, goes, ends, stops, on_head, on_row, on_dichotomy, on_outputs, on_end, placed, line_does, line_step, nothing, complete, ended, unended, read_lines, read_all, clash, clash_with, or_else, conflict, judged, checked, reading}
-use Rattle.rules.specs.Listing.{with_dichotomies, flow_step, flow_gives, flow_read, flow_ended, flow_unended, flow_lines}
+use Rattle.rules.specs.Listing.{no_row, blank, with_head, with_row, with_dichotomy, rows_of, Step, goes, ends, stops, on_head, on_row, on_dichotomy, on_outputs, on_end, placed, line_does, line_step, nothing, complete, ended, unended, read_lines, read_all, clash, clash_with, or_else, conflict, judged, checked, reading, with_dichotomies, flow_step, flow_gives, flow_read, flow_ended, flow_unended, flow_lines, Reading}
 use Rattle.rules.specs.FlowTable.{flow_asks, goes_well, stability}
 use Rattle.rules.specs.FlowLines.{flow_head, column_count, columns_of, FlowStep, flow_goes, flow_ends, flow_stops, flow_placed}
 use Rattle.rules.specs.declared.Head.{Head}
@@ -27,30 +26,26 @@ use Rattle.rules.specs.declared.Mark.{Mark}
 use Rattle.rules.specs.declared.Mark.TheVariants.{Mc, Mo, Pt, Di, Ou, Ft, En, Unknown}
 use Rattle.rules.specs.declared.Refusal.{Refusal}
 use Rattle.rules.specs.declared.Refusal.TheVariants.{BadLine, Limit, Place, Conflict, Unstable, NoOutputs}
-use Rattle.rules.specs.declared.Verdict.{Verdict}
-use Rattle.rules.specs.declared.Reading.{Reading}
+use Rattle.rules.specs.Refusals.{Verdict, refused}
 use Rattle.rules.proofs.SoundLines.{head-sound, row_read}
 use Rattle.rules.proofs.Sound.{goes_same, stops-not, step-placed, after, reads_on, reads_none, reads-last, flow-head, flow_after, flow-on, flow-none, flow-last, read_by, all_two, all_one, all_none}
+use Rattle.rules.specs.declared.Refused.{Refused}
 
 -- a refusal is at line m or above, and the rows of an accepted listing stand there
 abbrev Numbered : ℕ → Listing → Type 0
 Numbered m t = (j : ℕ) → j < t.rows → (get_or t.table j no_row).line ≤ m
 
-abbrev pub AtMost : ℕ → Verdict → Type 0
-AtMost m Verdict.Accepted = Unit {0}
-AtMost m (Verdict.Refused r k) = k ≤ m
+abbrev pub AtMost : {A : Type 0} → ℕ → Result A Refused → Type 0
+AtMost m (Ok x) = Unit {0}
+AtMost m (Err why) = why.line ≤ m
 
-record Within (m : ℕ) (r : Reading) : Type 0 where
-  line : AtMost m r.verdict
-  rows : Numbered m r.listing
+abbrev Within : ℕ → Reading → Type 0
+Within m (Ok t) = Numbered m t
+Within m (Err why) = why.line ≤ m
 
 blank-numbered : (m : ℕ) → Numbered m blank
 unfolding blank
 blank-numbered m j h = absurd (omega arith)
-
-refused-within : (m : ℕ) (f : Refusal) (k : ℕ) → k ≤ m → Within m (refused f k)
-unfolding refused
-refused-within m f k h = record { line = h; rows = blank-numbered m }
 
 -- ---- one line
 
@@ -102,23 +97,23 @@ ended-within : (m k : ℕ) (t : Listing) (rest : List (List ℕ)) → k < m → 
 unfolding ended
 ended-within m k t rest h f = go (nothing rest) (complete t.head t.given)
   where
-    go : (b c : Bool) → Within m (cond b (cond c (accepted t) (refused NoOutputs k)) (refused Place (k + 1)))
-    go true true = record { line = tt; rows = f }
-    go true false = refused-within m NoOutputs k (omega arith)
-    go false c = refused-within m Place (k + 1) (omega arith)
+    go : (b c : Bool) → Within m (cond b (cond c (Ok t) (refused NoOutputs k)) (refused Place (k + 1)))
+    go true true = f
+    go true false = omega arith
+    go false c = omega arith
 
 unended-within : (m k : ℕ) (g : Head) (given : ℕ) (l : List ℕ) → k ≤ m → Within m (unended k g given l)
 unfolding unended
-unended-within m k g given [] h = refused-within m Place k h
+unended-within m k g given [] h = h
 unended-within m k g given (x ∷ xs) h = go (placed (mark_is (mark_of (x ∷ xs))) k g given (x ∷ xs))
   where
     go : (b : Bool) → Within m (cond b (refused BadLine k) (refused Place k))
-    go true = refused-within m BadLine k h
-    go false = refused-within m Place k h
+    go true = h
+    go false = h
 
 lines-within : (m k : ℕ) (t : Listing) (ls : List (List ℕ)) → 1 ≤ k → k + length ls ≤ m → Numbered m t → Within m (read_lines k t ls)
 unfolding after
-lines-within m k t [] p h f = rw (reads_none k t) (refused-within m Place k (omega arith))
+lines-within m k t [] p h f = rw (reads_none k t) (omega arith)
 lines-within m k t (l ∷ []) p h f = rw (reads-last k t l) (unended-within m k t.head t.given l (omega arith))
 lines-within m k t (l ∷ (x ∷ xs)) p h f =
     rw (reads_on k t l x xs) (go (line_step k t l) refl (λ u g. lines-within m (k + 1) u (x ∷ xs) (omega arith) (omega arith) g))
@@ -126,7 +121,7 @@ lines-within m k t (l ∷ (x ∷ xs)) p h f =
     go : (s : Step) → line_step k t l ≡ s → ((u : Listing) → Numbered m u → Within m (read_lines (k + 1) u (x ∷ xs))) → Within m (after k t (x ∷ xs) s)
     go (goes u) e g = g u (does-numbered m (mark_is (mark_of l)) k t l u (omega arith) f (step-placed k t u l e).1)
     go ends e g = ended-within m k t (x ∷ xs) (omega arith) f
-    go (stops r) e g = refused-within m r k (omega arith)
+    go (stops r) e g = omega arith
 
 -- ---- a flow table: it has no rows
 
@@ -139,9 +134,9 @@ gives-within : (m : ℕ) (h : Head) (ds : List Requirement) → Within m (flow_g
 unfolding flow_gives
 gives-within m h ds = go (leb (length ds) most_dichotomies)
   where
-    go : (b : Bool) → Within m (cond b (accepted (with_dichotomies ds (with_head h blank))) (refused Limit 0))
-    go true = record { line = tt; rows = dichotomies-numbered m ds (with_head h blank) (blank-numbered m) }
-    go false = refused-within m Limit 0 (omega arith)
+    go : (b : Bool) → Within m (cond b (Ok (with_dichotomies ds (with_head h blank))) (refused Limit 0))
+    go true = dichotomies-numbered m ds (with_head h blank) (blank-numbered m)
+    go false = omega arith
 
 -- 13 stands at a state's line
 stable-within : (m : ℕ) (columns : List (List ℕ)) (a k : ℕ) → a + k + 1 ≤ m → AtMost m (stability columns (states_from a k))
@@ -150,7 +145,7 @@ stable-within m columns a zero h = tt
 stable-within m columns a (suc k) h = go (goes_well columns a) (stable-within m columns (suc a) k (omega arith))
   where
     go : (b : Bool) → AtMost m (stability columns (states_from (suc a) k))
-        → AtMost m (elim b as (λ _. Verdict) [ true ↦ stability columns (states_from (suc a) k) | false ↦ Verdict.Refused Unstable (a + 2) ])
+        → AtMost m (elim b as (λ _. Verdict) [ true ↦ stability columns (states_from (suc a) k) | false ↦ refused Unstable (a + 2) ])
     go true g = g
     go false g = omega arith
 
@@ -158,9 +153,9 @@ read-within : (m : ℕ) (h : Head) (columns : List (List ℕ)) → h.states + 1 
 unfolding flow_read
 read-within m h columns l = go (stability columns (states_from 0 h.states)) (stable-within m columns 0 h.states (omega arith))
   where
-    go : (v : Verdict) → AtMost m v → Within m (elim v as (λ _. Reading) [ Verdict.Accepted ↦ flow_gives h (flow_asks columns) | Verdict.Refused r k ↦ refused r k ])
-    go Verdict.Accepted g = gives-within m h (flow_asks columns)
-    go (Verdict.Refused r k) g = refused-within m r k g
+    go : (v : Verdict) → AtMost m v → Within m (elim v as (λ _. Reading) [ Ok _ ↦ flow_gives h (flow_asks columns) | Err why ↦ Err why ])
+    go (Ok _) g = gives-within m h (flow_asks columns)
+    go (Err why) g = g
 
 flow-ended-within : (m k : ℕ) (h : Head) (all rest : List (List ℕ)) → k < m → h.states + 1 ≤ m → Within m (flow_ended k h all rest)
 unfolding flow_ended
@@ -168,27 +163,27 @@ flow-ended-within m k h all rest l n = go (nothing rest)
   where
     go : (b : Bool) → Within m (cond b (flow_read h (columns_of h.states (column_count all) (take h.states all))) (refused Place (k + 1)))
     go true = read-within m h (columns_of h.states (column_count all) (take h.states all)) n
-    go false = refused-within m Place (k + 1) (omega arith)
+    go false = omega arith
 
 flow-unended-within : (m k n : ℕ) (l : List ℕ) → k ≤ m → Within m (flow_unended k n l)
 unfolding flow_unended
-flow-unended-within m k n [] h = refused-within m Place k h
+flow-unended-within m k n [] h = h
 flow-unended-within m k n (x ∷ xs) h = go (flow_placed (mark_is (mark_of (x ∷ xs))) k n)
   where
     go : (b : Bool) → Within m (cond b (refused BadLine k) (refused Place k))
-    go true = refused-within m BadLine k h
-    go false = refused-within m Place k h
+    go true = h
+    go false = h
 
 flow-within : (m k : ℕ) (h : Head) (all ls : List (List ℕ)) → k + length ls ≤ m → h.states + 1 ≤ m → Within m (flow_lines k h all ls)
 unfolding flow_after
-flow-within m k h all [] l n = rw (flow-none k h all) (refused-within m Place k (omega arith))
+flow-within m k h all [] l n = rw (flow-none k h all) (omega arith)
 flow-within m k h all (x ∷ []) l n = rw (flow-last k h all x) (flow-unended-within m k h.states x (omega arith))
 flow-within m k h all (x ∷ (y ∷ ys)) l n = rw (flow-on k h all x y ys) (go (flow_step k h.states (column_count all) x) (flow-within m (k + 1) h all (y ∷ ys) (omega arith) n))
   where
     go : (s : FlowStep) → Within m (flow_lines (k + 1) h all (y ∷ ys)) → Within m (flow_after k h all (y ∷ ys) s)
     go flow_goes g = g
     go flow_ends g = flow-ended-within m k h all (y ∷ ys) (omega arith) n
-    go (flow_stops r) g = refused-within m r k (omega arith)
+    go (flow_stops r) g = omega arith
 
 all-within : (m : ℕ) (ls : List (List ℕ)) → 1 + length ls ≤ m → most_states + 1 ≤ m → Within m (read_all ls)
 unfolding read_by
@@ -211,13 +206,13 @@ unfolding clash_with
 clash-within m a [] h = tt
 clash-within m a (b ∷ bs) h = go (clash a b) (clash-within m a bs h.1)
   where
-    go : (t : Bool) → AtMost m (clash_with a bs) → AtMost m (elim t as (λ _. Verdict) [ true ↦ Verdict.Refused Conflict b.line | false ↦ clash_with a bs ])
+    go : (t : Bool) → AtMost m (clash_with a bs) → AtMost m (elim t as (λ _. Verdict) [ true ↦ refused Conflict b.line | false ↦ clash_with a bs ])
     go true g = h.0
     go false g = g
 
 pub or-within : (m : ℕ) (v w : Verdict) → AtMost m v → AtMost m w → AtMost m (or_else v w)
-or-within m Verdict.Accepted w h g = g
-or-within m (Verdict.Refused r k) w h g = h
+or-within m (Ok tt) w h g = g
+or-within m (Err why) w h g = h
 
 pub conflict-within : (m : ℕ) (rs : List Row) → AllBelow m rs → AtMost m (conflict rs)
 unfolding conflict
@@ -235,21 +230,14 @@ rows-below m t f =
 
 -- ---- the whole
 
-judged-within : (m : ℕ) (v : Verdict) (t : Listing) → AtMost m v → AtMost m (judged v t).verdict
-unfolding refused
-judged-within m Verdict.Accepted t h = tt
-judged-within m (Verdict.Refused r k) t h = h
+judged-within : (m : ℕ) (v : Verdict) (t : Listing) → AtMost m v → AtMost m (judged v t)
+judged-within m (Ok _) t h = tt
+judged-within m (Err why) t h = h
 
-checked-within : (m : ℕ) (r : Reading) → Within m r → AtMost m (checked r).verdict
-unfolding conflict refused
-checked-within m r w = go r.verdict w.line
-  where
-    t : Listing
-    t = r.listing
-
-    go : (v : Verdict) → AtMost m v → AtMost m (elim v as (λ _. Reading) [ Verdict.Accepted ↦ judged (conflict (rows_of t)) t | Verdict.Refused f k ↦ refused f k ]).verdict
-    go Verdict.Accepted h = judged-within m (conflict (rows_of t)) t (conflict-within m (rows_of t) (rows-below m t w.rows))
-    go (Verdict.Refused f k) h = h
+checked-within : (m : ℕ) (r : Reading) → Within m r → AtMost m (checked r)
+unfolding conflict
+checked-within m (Ok t) w = judged-within m (conflict (rows_of t)) t (conflict-within m (rows_of t) (rows-below m t w))
+checked-within m (Err why) w = w
 
 push-length : (x : ℕ) (ps : List (List ℕ)) → length (push x ps) ≤ suc (length ps)
 push-length x [] = omega arith
@@ -264,16 +252,16 @@ split-length q (x ∷ xs) = go (eqb x q) (split-length q xs)
     go true h = omega arith
     go false h = omega (arith, push-length x (split q xs))
 
-reading-within : (s : List ℕ) → AtMost (most_bytes + 2) (reading s).verdict
+reading-within : (s : List ℕ) → AtMost (most_bytes + 2) (reading s)
 unfolding reading
 reading-within s = go (leb (length s) most_bytes) refl
   where
-    go : (b : Bool) → leb (length s) most_bytes ≡ b → AtMost (most_bytes + 2) (cond b (checked (read_all (lines_of s))) (refused Limit 0)).verdict
+    go : (b : Bool) → leb (length s) most_bytes ≡ b → AtMost (most_bytes + 2) (cond b (checked (read_all (lines_of s))) (refused Limit 0))
     go true e =
         checked-within (most_bytes + 2) (read_all (lines_of s))
         (all-within (most_bytes + 2) (lines_of s) (omega (arith, leb-true (length s) most_bytes e, split-length 10 s)) (omega arith))
-    go false e = (refused-within (most_bytes + 2) Limit 0 (omega arith)).line
+    go false e = omega arith
 
 -- whatever the bytes
-pub refused-line : (s : List ℕ) (r : Refusal) (k : ℕ) → (reading s).verdict ≡ Verdict.Refused r k → k < 100000
+pub refused-line : (s : List ℕ) (r : Refusal) (k : ℕ) → reading s ≡ refused r k → k < 100000
 refused-line s r k e = let h : k ≤ most_bytes + 2 = subst (AtMost (most_bytes + 2)) e (reading-within s) in omega arith

@@ -15,8 +15,9 @@ use Rattle.rules.specs.ListingText.{on_line, on_lines, lineless, row_text}
 use Rattle.rules.specs.declared.Head.{Head}
 use Rattle.rules.specs.declared.Row.{Row}
 use Rattle.rules.specs.declared.Refusal.TheVariants.{Conflict}
-use Rattle.rules.specs.declared.Verdict.{Verdict}
+use Rattle.rules.specs.Refusals.{Verdict, refused}
 use Rattle.rules.proofs.Printed.{printed-out, printed-in}
+use Rattle.std.specs.Prelude.{Ok, Err}
 
 pub lines-aside : (k : ℕ) (rs : List Row) → map lineless (on_lines k rs) ≡ map lineless rs
 unfolding on_lines
@@ -109,23 +110,23 @@ rows-count h bits k rs =
 
 -- ---- the conflict
 
-with_aside : (a : Row) (i k : ℕ) (rs : List Row) → clash_with a rs ≡ Verdict.Accepted → clash_with (on_line i a) (on_lines k rs) ≡ Verdict.Accepted
+with_aside : (a : Row) (i k : ℕ) (rs : List Row) → clash_with a rs ≡ Ok tt → clash_with (on_line i a) (on_lines k rs) ≡ Ok tt
 unfolding clash_with clash meets share_input on_lines
 with_aside a i k [] e = refl
 with_aside a i k (b ∷ bs) e = go (clash a b) e (with_aside a i (k + 1) bs)
   where
-    go : (t : Bool) → elim t as (λ _. Verdict) [ true ↦ Verdict.Refused Conflict b.line | false ↦ clash_with a bs ] ≡ Verdict.Accepted
-        → (clash_with a bs ≡ Verdict.Accepted → clash_with (on_line i a) (on_lines (k + 1) bs) ≡ Verdict.Accepted)
-        → elim t as (λ _. Verdict) [ true ↦ Verdict.Refused Conflict k | false ↦ clash_with (on_line i a) (on_lines (k + 1) bs) ] ≡ Verdict.Accepted
+    go : (t : Bool) → elim t as (λ _. Verdict) [ true ↦ refused Conflict b.line | false ↦ clash_with a bs ] ≡ Ok tt
+        → (clash_with a bs ≡ Ok tt → clash_with (on_line i a) (on_lines (k + 1) bs) ≡ Ok tt)
+        → elim t as (λ _. Verdict) [ true ↦ refused Conflict k | false ↦ clash_with (on_line i a) (on_lines (k + 1) bs) ] ≡ Ok tt
     go true e ih = absurd (let z : ◌≡◌ {A = ℕ} 0 1 = cc in omega arith)
     go false e ih = ih e
 
 -- of two verdicts that are one, both accept
-both : (v w : Verdict) → or_else v w ≡ Verdict.Accepted → (v ≡ Verdict.Accepted) × (w ≡ Verdict.Accepted)
-both Verdict.Accepted w e = (refl, e)
-both (Verdict.Refused r k) w e = absurd (let z : ◌≡◌ {A = ℕ} 0 1 = cc in omega arith)
+both : (v w : Verdict) → or_else v w ≡ Ok tt → (v ≡ Ok tt) × (w ≡ Ok tt)
+both (Ok tt) w e = (refl, e)
+both (Err why) w e = absurd (let z : ◌≡◌ {A = ℕ} 0 1 = cc in omega arith)
 
-pub conflict-lines : (k : ℕ) (rs : List Row) → conflict rs ≡ Verdict.Accepted → conflict (on_lines k rs) ≡ Verdict.Accepted
+pub conflict-lines : (k : ℕ) (rs : List Row) → conflict rs ≡ Ok tt → conflict (on_lines k rs) ≡ Ok tt
 unfolding conflict on_lines
 conflict-lines k [] e = refl
 conflict-lines k (r ∷ rs) e =

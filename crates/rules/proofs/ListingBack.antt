@@ -1,6 +1,6 @@
--- The text of a listing of rows reads back: any listing that is sound, under `MC`, without dichotomies and without conflict, as an accepted KISS2 text gives (02,
+-- The text of a listing of rows reads back: any listing that is sound, under `MC`, without dichotomies and without conflict, as an Ok KISS2 text gives (02,
 -- request 01), is read from its text as the listing of the same rows, each on the line where the text has it.
-use Rattle.std.specs.Prelude.{Err}
+use Rattle.std.specs.Prelude.{Err, Ok}
 use mathlib.Core.Path.{◌≡◌, refl, sym, ap, ap₂, ◌∙◌}
 use mathlib.Core.Bool.{Bool, true, false, not, ◌&&◌, ◌||◌, cond}
 use mathlib.Core.List.{List, [], ◌∷◌, ◌++◌, map, map-append, append_assoc, append-nil}
@@ -14,15 +14,13 @@ use Rattle.rules.specs.Text.{bytes, lf, same, split, lines_of, mark_of}
 use Rattle.rules.specs.Report.{joined_lines}
 use Rattle.rules.specs.Lines.{head_line}
 use Rattle.rules.specs.FlowLines.{flow_head}
-use Rattle.rules.specs.Listing.{no_pattern, no_row, no_requirement, blank, with_row, rows_of, goes}
-use Rattle.rules.specs.Listing.{accepted, refused, nothing, complete, ended, read_lines, read_all, conflict, judged, checked, reading, line_step}
+use Rattle.rules.specs.Listing.{no_pattern, no_row, no_requirement, blank, with_row, rows_of, goes, nothing, complete, ended, read_lines, read_all, conflict, judged, checked, reading, line_step, Reading}
 use Rattle.rules.specs.ListingText.{head_text, row_text, listing_lines, listing_text, on_line, on_lines, lineless, without_lines, rows_alone, renumbered}
 use Rattle.rules.specs.declared.Head.{Head}
 use Rattle.rules.specs.declared.Row.{Row}
 use Rattle.rules.specs.declared.Listing.{Listing}
-use Rattle.rules.specs.declared.Reading.{Reading}
 use Rattle.rules.specs.declared.Refusal.TheVariants.{NoOutputs, Limit, Place}
-use Rattle.rules.specs.declared.Verdict.{Verdict}
+use Rattle.rules.specs.Refusals.{Verdict, refused}
 use Rattle.rules.proofs.SoundLines.{SoundHead, SoundRow}
 use Rattle.rules.proofs.Sound.{Sound, accepted-sound, rows-length, row_of, after, reads_on, read_by, all_two}
 use Rattle.rules.proofs.Sharing.{accepted-apart}
@@ -31,15 +29,15 @@ use Rattle.rules.proofs.ListingLines.{bodies, listing-lines, row-fields}
 use Rattle.rules.proofs.LinesBack.{head_step, row_step, end_step}
 use Rattle.rules.proofs.LinesAside.{lines-aside, lines_long, map-twice, text-lines, conflict-lines}
 
--- what an accepted KISS2 text gives
+-- what an Ok KISS2 text gives
 pub record Plain (t : Listing) : Type 0 where
   pub sound : Sound t
   pub mealy : t.head.moore ≡ false
   pub rows-only : t.dichotomies ≡ 0
-  pub agreeing : conflict (rows_of t) ≡ Verdict.Accepted
+  pub agreeing : conflict (rows_of t) ≡ Ok tt
 
 -- and so does an accepted listing under `MC` without dichotomies
-pub accepted-plain : (s : List ℕ) → (reading s).verdict ≡ Verdict.Accepted → (reading s).listing.head.moore ≡ false → (reading s).listing.dichotomies ≡ 0 → Plain (reading s).listing
+pub accepted-plain : (s : List ℕ) {t : Listing} → reading s ≡ Ok t → t.head.moore ≡ false → t.dichotomies ≡ 0 → Plain t
 accepted-plain s e m d = record { sound = accepted-sound s e; mealy = m; rows-only = d; agreeing = accepted-apart s e }
 
 -- ---- the listing of rows alone, as it grows
@@ -91,12 +89,12 @@ unfolding after
 goes_on k t ls u = refl
 
 -- `EN`, and nothing behind it
-end_back : (k : ℕ) (t : Listing) → 2 ≤ k → t.head.moore ≡ false → read_lines k t (bytes "EN" ∷ ([] ∷ [])) ≡ accepted t
+end_back : (k : ℕ) (t : Listing) → 2 ≤ k → t.head.moore ≡ false → read_lines k t (bytes "EN" ∷ ([] ∷ [])) ≡ Ok t
 unfolding after ended nothing complete
 end_back k t h m =
     reads_on k t (bytes "EN") [] []
     ∙ ap (after k t ([] ∷ [])) (end_step k t h)
-    ∙ ap (λ (b : Bool). cond b (accepted t) (refused NoOutputs k)) (ap₂ ◌||◌ (ap not m) refl)
+    ∙ ap (λ (b : Bool). cond b (Ok t) (refused NoOutputs k)) (ap₂ ◌||◌ (ap not m) refl)
 
 -- behind the last row there is a line
 some-body : (h : Head) (rs : List Row) → 1 ≤ length (bodies h rs)
@@ -105,9 +103,9 @@ some-body h (r ∷ rs) = omega arith
 
 module _ (h : Head) (head : SoundHead h) (m : h.moore ≡ false) where
   rows_back : (done rs : List Row) (k : ℕ) → 2 ≤ k → length done + length rs ≤ most_rows → ((j : ℕ) → j < length rs → SoundRow h (get_or rs j no_row))
-      → read_lines k (rows_alone h done) (bodies h rs) ≡ accepted (rows_alone h (done ++ on_lines k rs))
+      → read_lines k (rows_alone h done) (bodies h rs) ≡ Ok (rows_alone h (done ++ on_lines k rs))
   unfolding rows_alone on_lines
-  rows_back done [] k two room sound = end_back k (rows_alone h done) two m ∙ ap (λ (rs : List Row). accepted (rows_alone h rs)) (sym (append-nil done))
+  rows_back done [] k two room sound = end_back k (rows_alone h done) two m ∙ ap (λ (rs : List Row). Ok (rows_alone h rs)) (sym (append-nil done))
   rows_back done (r ∷ rs) k two room sound =
       let x : Row = on_line k r in
       reads-some k (rows_alone h done) (row_text h r) (bodies h rs) (some-body h rs)
@@ -115,10 +113,10 @@ module _ (h : Head) (head : SoundHead h) (m : h.moore ≡ false) where
       ∙ goes_on k (rows_alone h done) (bodies h rs) (with_row x (rows_alone h done))
       ∙ ap (λ (u : Listing). read_lines (k + 1) u (bodies h rs)) (grown h done x (omega arith))
       ∙ rows_back (done ++ (x ∷ [])) rs (k + 1) (omega arith) (omega (arith, length-append done (x ∷ []))) (λ j l. sound (suc j) (omega arith))
-      ∙ ap (λ (rs : List Row). accepted (rows_alone h rs)) (append_assoc done (x ∷ []) (on_lines (k + 1) rs))
+      ∙ ap (λ (rs : List Row). Ok (rows_alone h rs)) (append_assoc done (x ∷ []) (on_lines (k + 1) rs))
 
   pub lines-back : (rs : List Row) → length rs ≤ most_rows → ((j : ℕ) → j < length rs → SoundRow h (get_or rs j no_row))
-      → read_lines 1 blank (head_text h ∷ bodies h rs) ≡ accepted (rows_alone h (on_lines 2 rs))
+      → read_lines 1 blank (head_text h ∷ bodies h rs) ≡ Ok (rows_alone h (on_lines 2 rs))
   unfolding after blank rows_alone
   lines-back rs room sound =
       reads-some 1 blank (head_text h) (bodies h rs) (some-body h rs)
@@ -150,7 +148,7 @@ as_rows h (r ∷ rs) = no_flow (head_text h) (row_text h r) (bodies h rs) (row-l
 
 -- a text of such lines: its head, its rows, its end
 reading-lines : (s : List ℕ) (h : Head) (rs : List Row) (t : Listing) → length s ≤ most_bytes → lines_of s ≡ head_text h ∷ bodies h rs
-    → read_lines 1 blank (head_text h ∷ bodies h rs) ≡ accepted t → conflict (rows_of t) ≡ Verdict.Accepted → reading s ≡ accepted t
+    → read_lines 1 blank (head_text h ∷ bodies h rs) ≡ Ok t → conflict (rows_of t) ≡ Ok tt → reading s ≡ Ok t
 unfolding reading
 reading-lines s h rs t short lines e agree =
     ap (λ (b : Bool). cond b (checked (read_all (lines_of s))) (refused Limit 0)) (le-leb (length s) most_bytes short)
@@ -166,7 +164,7 @@ pub same_head : (t : Listing) → (renumbered t).head ≡ t.head
 unfolding renumbered rows_alone
 same_head t = refl
 
-pub listing-back : (t : Listing) → Plain t → reading (listing_text t) ≡ accepted (renumbered t)
+pub listing-back : (t : Listing) → Plain t → reading (listing_text t) ≡ Ok (renumbered t)
 unfolding renumbered
 listing-back t p =
     let few : length (rows_of t) ≤ most_rows = omega (arith, rows-length t p.sound, p.sound.few-rows) in

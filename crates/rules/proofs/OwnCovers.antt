@@ -8,20 +8,18 @@ use lib.Dec.{leb}
 use lib.ListN.{length, get_or, length-map}
 use Rattle.rules.specs.Limits.{most_bits}
 use Rattle.rules.specs.Text.{bytes, lines_of}
-use Rattle.rules.specs.Listing.{rows_of, conflict, reading}
+use Rattle.rules.specs.Listing.{rows_of, conflict, reading, Reading}
 use Rattle.rules.specs.Requirements.{pairs_and_groups}
 use Rattle.rules.specs.Code.{Code, coded, coding, unmet_from}
 use Rattle.rules.specs.Report.{report}
 use Rattle.rules.specs.Cover.{cover}
-use Rattle.rules.specs.Least.{column, bits_for, least_coding, small_reading, least_reply, least_cover_reply}
+use Rattle.rules.specs.Least.{column, bits_for, least_coding, least_reply, least_cover_reply}
 use Rattle.rules.specs.Answers.{Reply, says, refuses, cover_of, on_reading, report_reply, cover_reply}
-use Rattle.rules.specs.CheckTexts.{codes_read, cover_reading}
+use Rattle.rules.specs.CheckTexts.{cover_reading, CodesReading}
 use Rattle.rules.specs.Check.{bits_of, check_text, check_cover, check_codes, check_reply}
 use Rattle.rules.specs.declared.Listing.{Listing}
-use Rattle.rules.specs.declared.Reading.{Reading}
-use Rattle.rules.specs.declared.CodesReading.{CodesReading}
 use Rattle.rules.specs.declared.Refusal.TheVariants.{Unmet}
-use Rattle.rules.specs.declared.Verdict.{Verdict}
+use Rattle.rules.specs.Refusals.{Verdict}
 use Rattle.rules.proofs.Ways.{chose-second}
 use Rattle.rules.proofs.Sound.{Sound, accepted-sound}
 use Rattle.rules.proofs.Sharing.{accepted-apart}
@@ -36,6 +34,7 @@ use Rattle.rules.proofs.Checking.{own-ok}
 use Rattle.rules.proofs.CodesBack.{codes_text, codes_said, codes-back, bits_back}
 use Rattle.rules.proofs.CoverBack.{cover-back}
 use Rattle.rules.proofs.CodesReported.{codes_in, codes-reported}
+use Rattle.std.specs.Prelude.{Ok, Err}
 
 -- ---- a code of a listing, and the cover in it
 
@@ -44,7 +43,7 @@ pub record FitCode (n : ℕ) (bits : List ℕ) : Type 0 where
   pub narrow : length bits ≤ most_bits
   pub below : (k : ℕ) → k < length bits → get_or bits k 0 < 2 ^ n
 
-module _ (t : Listing) (c : Code) (text : List ℕ) (sound : Sound t) (apart : conflict (rows_of t) ≡ Verdict.Accepted) (fit : FitCode t.head.states c.bits) (e : cover_of t (coded c) ≡ says text) where
+module _ (t : Listing) (c : Code) (text : List ℕ) (sound : Sound t) (apart : conflict (rows_of t) ≡ Ok tt) (fit : FitCode t.head.states c.bits) (e : cover_of t (coded c) ≡ says text) where
   written : cover t c.bits ≡ text
   unfolding cover_of
   written = says_same (cover t c.bits) text (chose-second (leb 1 (length (unmet_from 0 t.head.states c.bits (pairs_and_groups t)))) e (says-not Unmet 0 text)).1
@@ -53,17 +52,17 @@ module _ (t : Listing) (c : Code) (text : List ℕ) (sound : Sound t) (apart : c
   unfolding check_cover
   own-cover =
       ap (λ (v : Verdict). elim v [
-        | Verdict.Accepted ↦ says (check_text t (bits_of t.head.states (codes_said t.head.states c.bits)) (lines_of text))
-        | Verdict.Refused r k ↦ refuses r k
+        | Ok _ ↦ says (check_text t (bits_of t.head.states (codes_said t.head.states c.bits)) (lines_of text))
+        | Err why ↦ refuses why.refusal why.line
       ])
       (ap (λ (l : List ℕ). cover_reading (t.head.inputs + length c.bits) (length c.bits + t.head.outputs) (lines_of l)) (sym written) ∙ cover-back t c.bits sound fit.narrow)
       ∙ ap says (ap (λ (b : List ℕ). check_text t b (lines_of text)) (bits_back t.head.states c.bits fit.below) ∙ own-ok t c text sound apart e)
 
   -- by the lines of its code
   pub own-passes : check_codes t (lines_of (codes_text t.head.states c.bits)) (lines_of text) ≡ says (bytes "OK\n")
-  unfolding check_codes codes_read
+  unfolding check_codes
   own-passes =
-      ap (λ (r : CodesReading). elim r.verdict [ Verdict.Accepted ↦ check_cover t r.codes (lines_of text) | Verdict.Refused f k ↦ refuses f k ])
+      ap (λ (r : CodesReading). elim r [ Ok c ↦ check_cover t c (lines_of text) | Err why ↦ refuses why.refusal why.line ])
       (codes-back t.head.states c.bits sound.head.some-states sound.head.few-states fit.narrow)
       ∙ own-cover
 
@@ -87,16 +86,15 @@ least_fits t sound c l =
 
 -- ---- from the bytes
 
-on-accepted : (r : Reading) (f : Listing → Reply) → r.verdict ≡ Verdict.Accepted → on_reading r f ≡ f r.listing
-on-accepted r f a = ap (λ (v : Verdict). elim v [ Verdict.Accepted ↦ f r.listing | Verdict.Refused n k ↦ refuses n k ]) a
+on-accepted : {r : Reading} (f : Listing → Reply) {t : Listing} → r ≡ Ok t → on_reading r f ≡ f t
+on-accepted f a = ap (λ (r : Reading). on_reading r f) a
 
 -- a listing, the report of a code of it, and the cover in that code
-passes : (s report-text cover-text : List ℕ) (c : Code) → (reading s).verdict ≡ Verdict.Accepted → FitCode (reading s).listing.head.states c.bits
-    → report-text ≡ report (reading s).listing c → cover_of (reading s).listing (coded c) ≡ says cover-text → check_reply s (codes_in report-text) cover-text ≡ says (bytes "OK\n")
+passes : (s report-text cover-text : List ℕ) (c : Code) {t : Listing} → reading s ≡ Ok t → FitCode t.head.states c.bits
+    → report-text ≡ report t c → cover_of t (coded c) ≡ says cover-text → check_reply s (codes_in report-text) cover-text ≡ says (bytes "OK\n")
 unfolding check_reply
-passes s report-text cover-text c a fit is e =
-    let t : Listing = (reading s).listing in
-    on-accepted (reading s) (λ t. check_codes t (lines_of (codes_in report-text)) (lines_of cover-text)) a
+passes s report-text cover-text c {t} a fit is e =
+    on-accepted (λ t. check_codes t (lines_of (codes_in report-text)) (lines_of cover-text)) a
     ∙ ap (λ (l : List ℕ). check_codes t (lines_of l) (lines_of cover-text)) (ap codes_in is ∙ codes-reported t c)
     ∙ own-passes t c cover-text (accepted-sound s a) (accepted-apart s a) fit e
 
@@ -105,19 +103,16 @@ pub own-covers-pass : (s report-text cover-text : List ℕ) → report_reply s �
 unfolding cover_reply
 own-covers-pass s report-text cover-text r e =
     let w = reported s report-text r in
-    let t : Listing = (reading s).listing in
+    let t : Listing = w.listing in
     passes s report-text cover-text w.code w.accepted (coded-fits t (accepted-sound s w.accepted) w.code w.built) w.is
-    (ap (cover_of t) (sym w.built) ∙ sym (on-accepted (reading s) (λ t. cover_of t (coding t)) w.accepted) ∙ e)
+    (ap (cover_of t) (sym w.built) ∙ sym (on-accepted (λ t. cover_of t (coding t)) w.accepted) ∙ e)
 
 -- the least code and the cover in it
 pub least-covers-pass : (s report-text cover-text : List ℕ) → least_reply s ≡ says report-text → least_cover_reply s ≡ says cover-text → check_reply s (codes_in report-text) cover-text ≡ says (bytes "OK\n")
 unfolding least_cover_reply
 least-covers-pass s report-text cover-text r e =
     let w = least-reported s report-text r in
-    let whole : small_reading s ≡ reading s = small-reading s w.accepted in
-    let accepted : (reading s).verdict ≡ Verdict.Accepted = ap (λ (x : Reading). x.verdict) (sym whole) ∙ w.accepted in
-    let listing : (small_reading s).listing ≡ (reading s).listing = ap (λ (x : Reading). x.listing) whole in
-    let t : Listing = (reading s).listing in
-    let found : least_coding t ≡ coded w.code = ap least_coding (sym listing) ∙ w.found in
-    passes s report-text cover-text w.code accepted (least_fits t (accepted-sound s accepted) w.code (least-coded t w.code found)) (w.is ∙ ap (λ (u : Listing). report u w.code) listing)
-    (ap (cover_of t) (sym found) ∙ ap (λ (u : Listing). cover_of u (least_coding u)) (sym listing) ∙ sym (on-accepted (small_reading s) (λ t. cover_of t (least_coding t)) w.accepted) ∙ e)
+    let t : Listing = w.listing in
+    let accepted : reading s ≡ Ok t = small-reading s w.accepted in
+    passes s report-text cover-text w.code accepted (least_fits t (accepted-sound s accepted) w.code (least-coded t w.code w.found)) w.is
+    (ap (cover_of t) (sym w.found) ∙ sym (on-accepted (λ t. cover_of t (least_coding t)) w.accepted) ∙ e)

@@ -2,7 +2,6 @@
 use mathlib.Core.Path.{◌≡◌, sym, ap, subst, ◌∙◌}
 use mathlib.Core.Logic.{◌↔◌, ◌⊎◌, inl, inr, ⊎_elim}
 use mathlib.Core.Bool.{Bool, true, false, true≢false}
-use mathlib.Core.List.Memᴰ
 use mathlib.Core.List.{List, [], ◌∷◌, ◌++◌, Memᴰ}
 use Prim.Native.Nat.{ℕ, zero, suc, ◌+◌, ◌-◌, ◌*◌, ◌/◌, ◌≤◌, ◌<◌}
 use native.Mathlib.Decide.{dec_lt}
@@ -23,7 +22,6 @@ use Rattle.rules.specs.Code.{unmet}
 use Rattle.rules.specs.Answers.{says, report_reply}
 use Rattle.rules.specs.declared.Head.{Head}
 use Rattle.rules.specs.declared.Requirement.{Requirement}
-use Rattle.rules.specs.declared.Verdict.{Verdict}
 use Rattle.rules.proofs.Judged.{MetByNone, first_or_none}
 use Rattle.rules.proofs.Meeting.{Split, met-means, means-met}
 use Rattle.rules.proofs.Unmet.{mem-at, unmet-listed}
@@ -32,7 +30,10 @@ use Rattle.rules.proofs.Sound.{flow-head, column-short}
 use Rattle.rules.proofs.FlowSets.{destination-listed, between, OfColumn, of-table, in_table}
 use Rattle.rules.proofs.FlowGiven.{IsFlow, FlowGiven, flow-given}
 use Rattle.rules.proofs.Ended.{HasLine}
-use Rattle.rules.proofs.Reported.{un_text, reported}
+use Rattle.rules.proofs.Reported.{un_text, reported, tells-of}
+use Rattle.std.specs.Prelude.{Ok}
+use Rattle.rules.specs.declared.Listing.{Listing}
+use mathlib.Core.List.Memᴰ
 
 -- ---- transitions
 
@@ -203,24 +204,24 @@ module _ (n : ℕ) (bits : List ℕ) (columns : List (List ℕ)) (rs : List Requ
 
 -- ---- a flow table that is accepted
 
-module _ (s : List ℕ) (h : Head) (columns : List (List ℕ)) (flow : IsFlow s h columns) where
-  asked-given : (reading s).verdict ≡ Verdict.Accepted → requirements (reading s).listing ≡ pairs (states_from 0 (reading s).listing.head.states) ++ flow_asks columns
-  asked-given a = let g = flow-given s h columns flow a in g.asked ∙ ap (λ (h : Head). pairs (states_from 0 h.states) ++ flow_asks columns) (sym g.head)
+module _ (s : List ℕ) (h : Head) (columns : List (List ℕ)) (flow : IsFlow s h columns) {t : Listing} (a : reading s ≡ Ok t) where
+  asked-given : requirements t ≡ pairs (states_from 0 t.head.states) ++ flow_asks columns
+  asked-given = let g = flow-given s h columns flow a in g.asked ∙ ap (λ (h : Head). pairs (states_from 0 h.states) ++ flow_asks columns) (sym g.head)
 
   -- of any bits: the numbers listed are those of the unmet requirements
-  pub code-races : (reading s).verdict ≡ Verdict.Accepted → (bits : List ℕ)
-      → Races (reading s).listing.head.states bits columns (requirements (reading s).listing) (λ k. Memᴰ k (unmet (reading s).listing bits))
+  pub code-races : (bits : List ℕ)
+      → Races t.head.states bits columns (requirements t) (λ k. Memᴰ k (unmet t bits))
   unfolding unmet
-  code-races a bits =
-      races (reading s).listing.head.states bits columns (requirements (reading s).listing) (λ k. Memᴰ k (unmet (reading s).listing bits)) (asked-given a)
-      (unmet-listed (reading s).listing.head.states bits (requirements (reading s).listing))
+  code-races bits =
+      races t.head.states bits columns (requirements t) (λ k. Memᴰ k (unmet t bits)) asked-given
+      (unmet-listed t.head.states bits (requirements t))
 
   -- in the report they are those of its `UN` lines
   pub report-races : (text : List ℕ) (e : report_reply s ≡ says text)
-      → Races (reading s).listing.head.states (reported s text e).code.bits columns (requirements (reading s).listing) (λ k. HasLine text (un_text k))
+      → Races t.head.states (reported s text e).code.bits columns (requirements t) (λ k. HasLine text (un_text k))
   report-races text e =
       let r = reported s text e in
-      races (reading s).listing.head.states r.code.bits columns (requirements (reading s).listing) (λ k. HasLine text (un_text k)) (asked-given r.accepted) r.tells.un
+      races t.head.states r.code.bits columns (requirements t) (λ k. HasLine text (un_text k)) asked-given (tells-of a r).1.un
 
   -- each column has an entry for a state at most
   column_fits : (column : List ℕ) → Memᴰ column columns → length column ≤ h.states
@@ -230,17 +231,17 @@ module _ (s : List ℕ) (h : Head) (columns : List (List ℕ)) (flow : IsFlow s 
   few = (head-sound false flow.first h (flow-head flow.first flow.second h flow.head)).few-states
 
   -- where nothing is unmet, any two transitions of a column to different destinations are told apart by a bit that holds still during each: there is no critical race
-  pub race-free : (reading s).verdict ≡ Verdict.Accepted → (bits : List ℕ) → unmet (reading s).listing bits ≡ [] → (column : List ℕ) (i d j e : ℕ)
+  pub race-free : (bits : List ℕ) → unmet t bits ≡ [] → (column : List ℕ) (i d j e : ℕ)
       → Memᴰ column columns → Goes column i d → Goes column j e → (d ≡ e → ⊥) → ToldApart h.states bits (set_of d column) (set_of e column) × StillApart bits i d j e
-  race-free a bits none column i d j e m p q o =
+  race-free bits none column i d j e m p q o =
       let g = flow-given s h columns flow a in
-      let w = (code-races a bits).each column i d j e m p q o in
+      let w = (code-races bits).each column i d j e m p q o in
       let told : ToldApart h.states bits (set_of d column) (set_of e column) =
       subst (λ (h : Head). ToldApart h.states bits (set_of d column) (set_of e column)) g.head
       (⊎_elim (λ u. absurd (Memᴰ.not-nil (rw none at u.0))) (λ u. u.1) w.3) in
       (told, still-apart h.states bits column i d j e (column_fits column m) p q (itself g i d p) (itself g j e q) told)
     where
-      itself : FlowGiven h columns (reading s).listing → (i d : ℕ) → Goes column i d → Goes column d d
+      itself : FlowGiven h columns t → (i d : ℕ) → Goes column i d → Goes column d d
       itself g i d p =
           let short = column_fits column m in
           stable-goes column d (omega (arith, few)) p.state

@@ -20,22 +20,20 @@ use Rattle.sets.proofs.LowestMember.{lowest-has}
 use Rattle.sets.proofs.SizeMembers.{at_most_one}
 use Rattle.rules.specs.Limits.{most_states}
 use Rattle.rules.specs.Text.{digit, dash, one, lines_of, field_at, numeral_of, bytes}
-use Rattle.rules.specs.Listing.{no_row, all_rows, reading}
+use Rattle.rules.specs.Listing.{no_row, all_rows, reading, Reading}
 use Rattle.rules.specs.Code.{Code, Coding, coded, uncoded, coding, code_of}
 use Rattle.rules.specs.Report.{joined_lines}
 use Rattle.rules.specs.Cover.{fires, vector}
 use Rattle.rules.specs.Meaning.{Meaning, on, free, off, output_means, named_by, next_means, bit_means, cover_says, place_agrees, agrees_at}
-use Rattle.rules.specs.Answers.{Reply, says, refuses, cover_of, cover_reply}
+use Rattle.rules.specs.Answers.{Reply, says, refuses, cover_of, cover_reply, on_reading}
 use Rattle.rules.specs.Replay.{marked, start_read, start_line, vector_line, state_in, state_after, output_byte, outputs_text, code_after, Shown, Run, steps, over, stopped, shown, run_end, run_from, run_of, run_lines, replay, replay_of, replay_reply}
 use Rattle.rules.specs.declared.Head.{Head}
 use Rattle.rules.specs.declared.Row.{Row}
 use Rattle.rules.specs.declared.Listing.{Listing}
-use Rattle.rules.specs.declared.Reading.{Reading}
-use Rattle.rules.specs.declared.Verdict.{Verdict}
 use Rattle.rules.specs.declared.Refusal.{Refusal}
 use Rattle.rules.specs.declared.Refusal.TheVariants.{BadLine, NoNext}
 use Rattle.rules.specs.declared.StateNumber.{StateNumber}
-use Rattle.rules.proofs.Ways.{chose-first, not-ok}
+use Rattle.rules.proofs.Ways.{chose-first, not-ok, same-accepted}
 use Rattle.rules.proofs.Fires.{part-has}
 use Rattle.rules.proofs.SoundLines.{FitRow}
 use Rattle.rules.proofs.Sound.{Sound, accepted-sound}
@@ -71,8 +69,8 @@ pub record Replayed (listing run text : List ℕ) : Type 0 where
   pub cover : List ℕ
   pub covered : cover_reply listing ≡ says cover
   pub writes : Written (reading listing) cover
-  pub prints : text ≡ joined_lines (run_lines (run_of (reading listing).listing writes.code.bits (lines_of cover) (lines_of run)))
-  pub whole : Whole (reading listing).listing writes.code.bits (lines_of cover) (run_of (reading listing).listing writes.code.bits (lines_of cover) (lines_of run))
+  pub prints : text ≡ joined_lines (run_lines (run_of writes.listing writes.code.bits (lines_of cover) (lines_of run)))
+  pub whole : Whole writes.listing writes.code.bits (lines_of cover) (run_of writes.listing writes.code.bits (lines_of cover) (lines_of run))
 
 -- ---- the state that is named
 
@@ -225,18 +223,18 @@ module _ (t : Listing) (bits : List ℕ) (ls : List (List ℕ)) (sound : Sound t
 -- ---- the reply
 
 -- what is said of a listing that is read and coded
-replied : Reading → List ℕ → Verdict → Reply
-replied r run v = elim v [ Verdict.Accepted ↦ replay_of r.listing (coding r.listing) run | Verdict.Refused f k ↦ refuses f k ]
+abbrev replied : List ℕ → Reading → Reply
+replied run r = on_reading r (λ t. replay_of t (coding t) run)
 
-cover-replied : Reading → Verdict → Reply
-cover-replied r v = elim v [ Verdict.Accepted ↦ cover_of r.listing (coding r.listing) | Verdict.Refused f k ↦ refuses f k ]
+abbrev cover-replied : Reading → Reply
+cover-replied r = on_reading r (λ t. cover_of t (coding t))
 
-reply : (s run : List ℕ) → replay_reply s run ≡ replied (reading s) run (reading s).verdict
-unfolding replay_reply replied
+reply : (s run : List ℕ) → replay_reply s run ≡ replied run (reading s)
+unfolding replay_reply
 reply s run = refl
 
-cover-reply : (s : List ℕ) → cover_reply s ≡ cover-replied (reading s) (reading s).verdict
-unfolding cover_reply cover-replied
+cover-reply : (s : List ℕ) → cover_reply s ≡ cover-replied (reading s)
+unfolding cover_reply
 cover-reply s = refl
 
 -- where a replay says a text, the listing has a cover, and the replay goes by its text
@@ -253,22 +251,23 @@ by-cover t (uncoded r) run text e = absurd (says-not r 0 text e)
 coded-same : (c d : Code) → coded c ≡ coded d → c ≡ d
 coded-same c d e = cc
 
-of-reading : (s run text : List ℕ) (v : Verdict) → (reading s).verdict ≡ v → replied (reading s) run v ≡ says text → Replayed s run text
-unfolding replied cover-replied replay
-of-reading s run text Verdict.Accepted a e =
-    let b = by-cover (reading s).listing (coding (reading s).listing) run text e in
-    let covered : cover_reply s ≡ says b.2.0 = cover-reply s ∙ ap (cover-replied (reading s)) a ∙ b.2.1 in
+of-reading : (s run text : List ℕ) (r : Reading) → reading s ≡ r → replied run r ≡ says text → Replayed s run text
+unfolding replay
+of-reading s run text (Ok t) a e =
+    let b = by-cover t (coding t) run text e in
+    let covered : cover_reply s ≡ says b.2.0 = cover-reply s ∙ ap cover-replied a ∙ b.2.1 in
     let w = written s b.2.0 covered in
-    let same : b.0 ≡ w.code = coded-same b.0 w.code (sym b.1 ∙ w.built) in
+    let here : t ≡ w.listing = same-accepted (sym a ∙ w.accepted) in
+    let same : b.0 ≡ w.code = coded-same b.0 w.code (sym b.1 ∙ ap coding here ∙ w.built) in
     record {
       cover = b.2.0;
       covered = covered;
       writes = w;
-      prints = b.2.2 ∙ ap (λ (c : Code). replay (reading s).listing c.bits b.2.0 run) same;
-      whole = run-whole (reading s).listing w.code.bits (lines_of b.2.0) (accepted-sound s a) w.covers.agrees (lines_of run);
+      prints = b.2.2 ∙ ap₂ (λ (t : Listing) (c : Code). replay t c.bits b.2.0 run) here same;
+      whole = run-whole w.listing w.code.bits (lines_of b.2.0) (accepted-sound s w.accepted) w.covers.agrees (lines_of run);
     }
-of-reading s run text (Verdict.Refused f k) a e = absurd (says-not f k text e)
+of-reading s run text (Err why) a e = absurd (says-not why.refusal why.line text e)
 
 -- whatever the bytes of the two texts
 pub replayed : (s run text : List ℕ) → replay_reply s run ≡ says text → Replayed s run text
-replayed s run text e = of-reading s run text (reading s).verdict refl (sym (reply s run) ∙ e)
+replayed s run text e = of-reading s run text (reading s) refl (sym (reply s run) ∙ e)

@@ -9,7 +9,7 @@ use lib.ListN.{length, take}
 use Rattle.sets.specs.Sets.{states_from}
 use Rattle.rules.specs.Limits.{most_bits}
 use Rattle.rules.specs.Text.{bytes}
-use Rattle.rules.specs.Listing.{rows_of, dichotomies_of, state_rows, all_rows, reading}
+use Rattle.rules.specs.Listing.{rows_of, dichotomies_of, state_rows, all_rows, reading, Reading}
 use Rattle.rules.specs.Requirements.{groups, pairs, pairs_and_groups, requirements}
 use Rattle.rules.specs.Code.{Code, Coding, coded, uncoded, build, unmet_from, unmet, coding}
 use Rattle.rules.specs.Report.{report_lines, report, joined_lines}
@@ -21,7 +21,6 @@ use Rattle.rules.specs.declared.Head.{Head}
 use Rattle.rules.specs.declared.Requirement.{Requirement}
 use Rattle.rules.specs.declared.Row.{Row}
 use Rattle.rules.specs.declared.Listing.{Listing}
-use Rattle.rules.specs.declared.Reading.{Reading}
 use Rattle.rules.specs.declared.Refusal.TheVariants.{Unmet}
 use Rattle.rules.proofs.LinesAside.{map-like, printed_lines, groups-lines, rows-lines, rows-count}
 use Rattle.rules.proofs.ListingBack.{Plain, renumbered-rows, same_head, listing-back}

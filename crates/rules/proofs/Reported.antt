@@ -1,9 +1,8 @@
 -- The report that is written: each requirement has there its `BY` line, with the first bit that meets it, or its `UN` line, and never both.
-use Rattle.std.specs.Prelude.{Option, Some, None}
+use Rattle.std.specs.Prelude.{Option, Some, None, Ok, Err}
 use mathlib.Core.Path.{◌≡◌, refl, sym, ap, subst, ◌∙◌}
 use mathlib.Core.Logic.{◌↔◌, ◌⊎◌, inl, inr, ⊎_elim}
 use mathlib.Core.Bool.{true≢false}
-use mathlib.Core.List.Memᴰ
 use mathlib.Core.List.{List, [], ◌∷◌, ◌++◌, map, Memᴰ}
 use Prim.Native.Nat.{ℕ, zero, suc, ◌+◌, ◌<◌}
 use native.Mathlib.Nat.{add-zero}
@@ -11,14 +10,12 @@ use native.Mathlib.Omega.{arith}
 use lib.ListN.{length, get_or}
 use Rattle.sets.specs.Sets.{states_from}
 use Rattle.rules.specs.Text.{bytes, lf, space, lines_of, fields_of, decimal}
-use Rattle.rules.specs.Listing.{no_requirement, reading}
+use Rattle.rules.specs.Listing.{no_requirement, reading, Reading}
 use Rattle.rules.specs.Requirements.{judgement, requirements}
 use Rattle.rules.specs.Code.{Code, Coding, coded, uncoded, coding, unmet}
 use Rattle.rules.specs.Report.{count_line, state_line, met_line, unmet_line, met_lines, report_lines, report}
-use Rattle.rules.specs.Answers.{Reply, says, refuses, report_of, report_reply}
+use Rattle.rules.specs.Answers.{Reply, says, report_of, report_reply, on_reading}
 use Rattle.rules.specs.declared.Listing.{Listing}
-use Rattle.rules.specs.declared.Reading.{Reading}
-use Rattle.rules.specs.declared.Verdict.{Verdict}
 use Rattle.rules.specs.declared.Requirement.{Requirement}
 use Rattle.rules.specs.declared.BitNumber.{BitNumber}
 use Rattle.rules.proofs.Fields.{none, more, without-append, split-last, split-part}
@@ -29,6 +26,8 @@ use Rattle.rules.proofs.Unmet.{unmet-listed}
 use Rattle.rules.proofs.Written.{says_same, says-not}
 use Rattle.rules.proofs.Ended.{HasLine}
 use Rattle.rules.proofs.ReportLines.{report-has}
+use mathlib.Core.List.Memᴰ
+use Rattle.rules.proofs.Ways.{same-accepted}
 
 -- the line of the requirement r by the bit k, and of r unmet
 abbrev pub by_text : ℕ → ℕ → List ℕ
@@ -52,11 +51,12 @@ pub record Tells (n : ℕ) (bits : List ℕ) (rs : List Requirement) (text : Lis
 
 -- the listing is accepted and coded, and text is its report
 pub record Reported (r : Reading) (text : List ℕ) : Type 0 where
-  pub accepted : r.verdict ≡ Verdict.Accepted
+  pub listing : Listing
+  pub accepted : r ≡ Ok listing
   pub code : Code
-  pub built : coding r.listing ≡ coded code
-  pub is : text ≡ report r.listing code
-  pub tells : Tells r.listing.head.states code.bits (requirements r.listing) text
+  pub built : coding listing ≡ coded code
+  pub is : text ≡ report listing code
+  pub tells : Tells listing.head.states code.bits (requirements listing) text
 
 -- ---- a line says which requirement, and which bit
 
@@ -300,28 +300,33 @@ module _ (t : Listing) (c : Code) where
 
 -- ---- the reply
 
-unfoldable pub replied : Reading → Verdict → Reply
-replied r v = elim v [ Verdict.Accepted ↦ report_of r.listing (coding r.listing) | Verdict.Refused f k ↦ refuses f k ]
+abbrev pub replied : Reading → Reply
+replied r = on_reading r (λ t. report_of t (coding t))
 
 pub of-coding : (t : Listing) (g : Coding) (text : List ℕ) → report_of t g ≡ says text → (c : Code) × (g ≡ coded c) × (text ≡ report t c)
 unfolding report
 of-coding t (coded c) text e = (c, refl, sym (says_same (report t c) text e))
 of-coding t (uncoded f) text e = absurd (says-not f 0 text e)
 
-pub of-reading : (r : Reading) (text : List ℕ) (v : Verdict) → r.verdict ≡ v → replied r v ≡ says text → Reported r text
-unfolding replied
-of-reading r text Verdict.Accepted a e =
-    let w = of-coding r.listing (coding r.listing) text e in
-    record { accepted = a; code = w.0; built = w.1; is = w.2; tells = told w.0 w.2 }
-  where
-    told : (c : Code) → text ≡ report r.listing c → Tells r.listing.head.states c.bits (requirements r.listing) text
-    told c is = subst (Tells r.listing.head.states c.bits (requirements r.listing)) (sym is) (report-tells r.listing c)
-of-reading r text (Verdict.Refused f k) a e = absurd (says-not f k text e)
+-- of an accepted reading it is told of its listing
+pub tells-of : {r : Reading} {text : List ℕ} {t : Listing} → r ≡ Ok t → (w : Reported r text) → (coding t ≡ coded w.code) × Tells t.head.states w.code.bits (requirements t) text
+tells-of {r} {text} {t} a w =
+    let here : w.listing ≡ t = same-accepted (sym w.accepted ∙ a) in
+    (ap coding (sym here) ∙ w.built, subst (λ (u : Listing). Tells u.head.states w.code.bits (requirements u) text) here w.tells)
 
-reply : (s : List ℕ) → report_reply s ≡ replied (reading s) (reading s).verdict
-unfolding report_reply replied
+pub of-reading : (r : Reading) (text : List ℕ) → replied r ≡ says text → Reported r text
+of-reading (Ok t) text e =
+    let w = of-coding t (coding t) text e in
+    record { listing = t; accepted = refl; code = w.0; built = w.1; is = w.2; tells = told w.0 w.2 }
+  where
+    told : (c : Code) → text ≡ report t c → Tells t.head.states c.bits (requirements t) text
+    told c is = subst (Tells t.head.states c.bits (requirements t)) (sym is) (report-tells t c)
+of-reading (Err why) text e = absurd (says-not why.refusal why.line text e)
+
+reply : (s : List ℕ) → report_reply s ≡ replied (reading s)
+unfolding report_reply
 reply s = refl
 
 -- whatever the bytes
 pub reported : (s text : List ℕ) → report_reply s ≡ says text → Reported (reading s) text
-reported s text e = of-reading (reading s) text (reading s).verdict refl (sym (reply s) ∙ e)
+reported s text e = of-reading (reading s) text (sym (reply s) ∙ e)

@@ -1,5 +1,5 @@
 -- Rows that fire at one input vector and one state share both; so of an accepted listing they name no two next states.
-use mathlib.Core.Path.{◌≡◌, refl, sym, ap, ◌∙◌}
+use mathlib.Core.Path.{◌≡◌, refl, sym, ap, subst, ◌∙◌}
 use mathlib.Core.Bool.{Bool, true, false, ◌||◌, not, cond, or-true}
 use mathlib.Core.List.{List, [], ◌∷◌}
 use Prim.Native.Nat.{ℕ, zero, suc, ◌≤◌, ◌<◌}
@@ -13,17 +13,17 @@ use Rattle.sets.proofs.Members.{has-and, has-none, has-high}
 use Rattle.sets.proofs.Every.{and_first, and_second, and_both, every-at, at_every}
 use Rattle.rules.specs.Limits.{most_bytes, most_inputs}
 use Rattle.rules.specs.Text.{lines_of}
-use Rattle.rules.specs.Listing.{no_row, rows_of, refused, read_all, share_input, meets, clash, clash_with, or_else, conflict, judged, checked, reading}
+use Rattle.rules.specs.Listing.{no_row, rows_of, read_all, share_input, meets, clash, clash_with, or_else, conflict, judged, checked, reading, Reading}
 use Rattle.rules.specs.Cover.{fires}
 use Rattle.rules.specs.declared.Head.{Head}
 use Rattle.rules.specs.declared.Row.{Row}
 use Rattle.rules.specs.declared.Listing.{Listing}
-use Rattle.rules.specs.declared.Reading.{Reading}
-use Rattle.rules.specs.declared.Verdict.{Verdict}
-use Rattle.rules.specs.declared.Refusal.{Refusal}
+use Rattle.rules.specs.Refusals.{Verdict, refused}
 use Rattle.rules.specs.declared.Refusal.TheVariants.{Conflict, Limit}
 use Rattle.rules.proofs.Ways.{not-accepted}
 use Rattle.rules.proofs.SoundLines.{FitRow}
+use Rattle.std.specs.Prelude.{Ok, Err}
+use Rattle.std.specs.Result.{IfOk}
 
 module _ (h : Head) (few : h.inputs ≤ most_inputs) (a b : Row) (sa : FitRow h a) (sb : FitRow h b) (x s : ℕ) (fa : fires h a x s ≡ true) (fb : fires h b x s ≡ true) where
   -- a row that fires takes the vector's digit, or has a dash there
@@ -68,30 +68,30 @@ module _ (h : Head) (few : h.inputs ≤ most_inputs) (a b : Row) (sa : FitRow h 
 
 -- ---- of an accepted listing
 
-apart-one : (a : Row) (rs : List Row) → clash_with a rs ≡ Verdict.Accepted → (k : ℕ) → k < length rs → clash a (get_or rs k no_row) ≡ false
+apart-one : (a : Row) (rs : List Row) → clash_with a rs ≡ Ok tt → (k : ℕ) → k < length rs → clash a (get_or rs k no_row) ≡ false
 unfolding clash_with
 apart-one a [] e k l = absurd (omega arith)
 apart-one a (b ∷ bs) e k l = go (clash a b) refl e k l (apart-one a bs)
   where
-    go : (t : Bool) → clash a b ≡ t → elim t as (λ _. Verdict) [ true ↦ Verdict.Refused Conflict b.line | false ↦ clash_with a bs ] ≡ Verdict.Accepted → (k : ℕ) → k < length (b ∷ bs)
-        → (clash_with a bs ≡ Verdict.Accepted → (k : ℕ) → k < length bs → clash a (get_or bs k no_row) ≡ false) → clash a (get_or (b ∷ bs) k no_row) ≡ false
-    go true h e k l later = absurd (not-accepted Conflict b.line e)
+    go : (t : Bool) → clash a b ≡ t → elim t as (λ _. Verdict) [ true ↦ refused Conflict b.line | false ↦ clash_with a bs ] ≡ Ok tt → (k : ℕ) → k < length (b ∷ bs)
+        → (clash_with a bs ≡ Ok tt → (k : ℕ) → k < length bs → clash a (get_or bs k no_row) ≡ false) → clash a (get_or (b ∷ bs) k no_row) ≡ false
+    go true h e k l later = absurd (not-accepted e)
     go false h e zero l later = h
     go false h e (suc k) l later = later e k (omega arith)
 
 -- no row clashes with one behind it
-pub rows_apart : (rs : List Row) → conflict rs ≡ Verdict.Accepted → (i j : ℕ) → i < j → j < length rs → clash (get_or rs i no_row) (get_or rs j no_row) ≡ false
+pub rows_apart : (rs : List Row) → conflict rs ≡ Ok tt → (i j : ℕ) → i < j → j < length rs → clash (get_or rs i no_row) (get_or rs j no_row) ≡ false
 unfolding conflict
 rows_apart [] e i j h l = absurd (omega arith)
 rows_apart (a ∷ rs) e i j h l = go (clash_with a rs) refl e i j h l (rows_apart rs)
   where
-    go : (v : Verdict) → clash_with a rs ≡ v → or_else v (conflict rs) ≡ Verdict.Accepted → (i j : ℕ) → i < j → j < length (a ∷ rs)
-        → (conflict rs ≡ Verdict.Accepted → (i j : ℕ) → i < j → j < length rs → clash (get_or rs i no_row) (get_or rs j no_row) ≡ false)
+    go : (v : Verdict) → clash_with a rs ≡ v → or_else v (conflict rs) ≡ Ok tt → (i j : ℕ) → i < j → j < length (a ∷ rs)
+        → (conflict rs ≡ Ok tt → (i j : ℕ) → i < j → j < length rs → clash (get_or rs i no_row) (get_or rs j no_row) ≡ false)
         → clash (get_or (a ∷ rs) i no_row) (get_or (a ∷ rs) j no_row) ≡ false
-    go (Verdict.Refused r k) q e i j h l later = absurd (not-accepted r k e)
-    go Verdict.Accepted q e i zero h l later = absurd (omega arith)
-    go Verdict.Accepted q e zero (suc j) h l later = apart-one a rs q j (omega arith)
-    go Verdict.Accepted q e (suc i) (suc j) h l later = later e i j (omega arith) (omega arith)
+    go (Err why) q e i j h l later = absurd (not-accepted e)
+    go (Ok tt) q e i zero h l later = absurd (omega arith)
+    go (Ok tt) q e zero (suc j) h l later = apart-one a rs q j (omega arith)
+    go (Ok tt) q e (suc i) (suc j) h l later = later e i j (omega arith) (omega arith)
 
 -- two rows that share and do not clash name one next state, or one of them names none
 pub one-next : (a b : Row) → meets a b ≡ true → clash a b ≡ false → (a.next ≡ 0 → ⊥) → (b.next ≡ 0 → ⊥) → a.next ≡ b.next
@@ -107,30 +107,25 @@ one-next a b m c na nb =
 -- ---- an accepted listing has no conflict
 
 abbrev Apart : Reading → Type 0
-Apart r = r.verdict ≡ Verdict.Accepted → conflict (rows_of r.listing) ≡ Verdict.Accepted
-
-refused-apart : (f : Refusal) (k : ℕ) → Apart (refused f k)
-unfolding refused
-refused-apart f k e = absurd (not-accepted f k e)
+Apart r = IfOk r (λ t. conflict (rows_of t) ≡ Ok tt)
 
 judged-apart : (t : Listing) (v : Verdict) → conflict (rows_of t) ≡ v → Apart (judged v t)
-unfolding refused
-judged-apart t Verdict.Accepted e = λ _. e
-judged-apart t (Verdict.Refused f k) e = refused-apart f k
+judged-apart t (Ok tt) e = e
+judged-apart t (Err why) e = tt
 
 checked-apart : (r : Reading) → Apart (checked r)
-unfolding conflict refused
-checked-apart r = go r.verdict
-  where
-    go : (v : Verdict) → Apart (elim v [ Verdict.Accepted ↦ judged (conflict (rows_of r.listing)) r.listing | Verdict.Refused f k ↦ refused f k ])
-    go Verdict.Accepted = judged-apart r.listing (conflict (rows_of r.listing)) refl
-    go (Verdict.Refused f k) = refused-apart f k
+unfolding conflict
+checked-apart (Ok t) = judged-apart t (conflict (rows_of t)) refl
+checked-apart (Err why) = tt
 
 -- whatever the bytes
-pub accepted-apart : (s : List ℕ) → (reading s).verdict ≡ Verdict.Accepted → conflict (rows_of (reading s).listing) ≡ Verdict.Accepted
+reading-apart : (s : List ℕ) → Apart (reading s)
 unfolding reading
-accepted-apart s = go (leb (length s) most_bytes)
+reading-apart s = go (leb (length s) most_bytes)
   where
     go : (b : Bool) → Apart (cond b (checked (read_all (lines_of s))) (refused Limit 0))
     go true = checked-apart (read_all (lines_of s))
-    go false = refused-apart Limit 0
+    go false = tt
+
+pub accepted-apart : (s : List ℕ) {t : Listing} → reading s ≡ Ok t → conflict (rows_of t) ≡ Ok tt
+accepted-apart s e = subst Apart e (reading-apart s)

@@ -4,7 +4,6 @@ use Rattle.rules.specs.declared.StateOutputs.{StateOutputs}
 use Rattle.std.specs.Prelude.{Result, Ok, Err}
 use mathlib.Core.Path.{◌≡◌, refl, ap, subst, ◌∙◌}
 use mathlib.Core.Bool.{Bool, true, false, ◌&&◌, cond, false≢true}
-use mathlib.Core.List.Memᴰ
 use mathlib.Core.List.{List, [], ◌∷◌, map, Memᴰ}
 use Prim.Native.Nat.{ℕ, zero, suc, ◌+◌, ◌≤◌, ◌<◌}
 use native.Mathlib.Decide.{ℕ_discrete}
@@ -17,10 +16,7 @@ use Rattle.sets.specs.Sets.{states_from}
 use Rattle.rules.specs.Limits.{most_bytes, most_states, most_rows, most_dichotomies}
 use Rattle.rules.specs.Text.{bytes, same, lines_of, mark_of, mark_is}
 use Rattle.rules.specs.Lines.{head_line, row_line, dichotomy_line, outputs_line, end_line}
-use Rattle.rules.specs.Listing.{no_pattern, no_row, no_requirement, blank, with_head, with_row, with_dichotomy, with_outputs, rows_of}
-use Rattle.rules.specs.Listing.{Step, goes, ends, stops, on_head, on_row, on_dichotomy, on_outputs, on_end, placed, line_does, line_step}
-use Rattle.rules.specs.Listing.{accepted, refused, nothing, complete, ended, unended, read_lines, read_all, conflict, judged, checked, reading}
-use Rattle.rules.specs.Listing.{with_dichotomies, flow_step, flow_gives, flow_read, flow_ended, flow_unended, flow_lines}
+use Rattle.rules.specs.Listing.{no_pattern, no_row, no_requirement, blank, with_head, with_row, with_dichotomy, with_outputs, rows_of, Step, goes, ends, stops, on_head, on_row, on_dichotomy, on_outputs, on_end, placed, line_does, line_step, nothing, complete, ended, unended, read_lines, read_all, conflict, judged, checked, reading, with_dichotomies, flow_step, flow_gives, flow_read, flow_ended, flow_unended, flow_lines, Reading}
 use Rattle.rules.specs.FlowTable.{flow_asks, stability}
 use Rattle.rules.specs.FlowLines.{flow_head, entry_at, column_count, columns_of, FlowStep, flow_goes, flow_ends, flow_stops, flow_placed}
 use Rattle.rules.specs.declared.Head.{Head}
@@ -32,11 +28,12 @@ use Rattle.rules.specs.declared.Mark.{Mark}
 use Rattle.rules.specs.declared.Mark.TheVariants.{Mc, Mo, Pt, Di, Ou, Ft, En, Unknown}
 use Rattle.rules.specs.declared.Refusal.{Refusal}
 use Rattle.rules.specs.declared.Refusal.TheVariants.{BadLine, Limit, Place, NoOutputs}
-use Rattle.rules.specs.declared.Verdict.{Verdict}
-use Rattle.rules.specs.declared.Reading.{Reading}
+use Rattle.rules.specs.Refusals.{Verdict, refused}
 use Rattle.rules.proofs.SoundLines.{SoundHead, SoundPattern, SoundRow, SoundBlocks, no-pattern, head-sound, head-kind, ReadRow, row_read, dichotomy-sound, outputs-sound}
 use Rattle.rules.proofs.FlowSets.{table-sound}
 use Rattle.rules.proofs.Ways.{chose-first}
+use Rattle.std.specs.Result.{IfOk}
+use mathlib.Core.List.Memᴰ
 
 pub record Sound (t : Listing) : Type 0 where
   pub head : SoundHead t.head
@@ -224,29 +221,25 @@ later-sound Unknown k t l u h s p e = absurd (stops-not BadLine u e)
 
 -- a reading that is accepted gives a sound listing, in which under `MO` each state has its outputs
 abbrev Good : Reading → Type 0
-Good r = r.verdict ≡ Verdict.Accepted → Sound r.listing × (complete r.listing.head r.listing.given ≡ true)
-
-refused-good : (f : Refusal) (k : ℕ) → Good (refused f k)
-unfolding refused
-refused-good f k e = absurd (let z : ◌≡◌ {A = ℕ} 0 1 = cc in omega arith)
+Good r = IfOk r (λ t. Sound t × (complete t.head t.given ≡ true))
 
 ended-good : (k : ℕ) (t : Listing) (rest : List (List ℕ)) → Sound t → Good (ended k t rest)
 unfolding ended
 ended-good k t rest s = go (nothing rest) (complete t.head t.given) refl
   where
-    go : (b c : Bool) → complete t.head t.given ≡ c → Good (cond b (cond c (accepted t) (refused NoOutputs k)) (refused Place (k + 1)))
-    go true true q = λ e. (s, q)
-    go true false q = refused-good NoOutputs k
-    go false c q = refused-good Place (k + 1)
+    go : (b c : Bool) → complete t.head t.given ≡ c → Good (cond b (cond c (Ok t) (refused NoOutputs k)) (refused Place (k + 1)))
+    go true true q = (s, q)
+    go true false q = tt
+    go false c q = tt
 
 unended-good : (k : ℕ) (h : Head) (given : ℕ) (l : List ℕ) → Good (unended k h given l)
 unfolding unended
-unended-good k h given [] = refused-good Place k
+unended-good k h given [] = tt
 unended-good k h given (x ∷ xs) = go (placed (mark_is (mark_of (x ∷ xs))) k h given (x ∷ xs))
   where
     go : (b : Bool) → Good (cond b (refused BadLine k) (refused Place k))
-    go true = refused-good BadLine k
-    go false = refused-good Place k
+    go true = tt
+    go false = tt
 
 -- what follows line k
 unfoldable pub after : ℕ → Listing → List (List ℕ) → Step → Reading
@@ -266,25 +259,25 @@ reads-last k t l = refl
 
 later-good : (k : ℕ) (t : Listing) (ls : List (List ℕ)) → 2 ≤ k → Sound t → Good (read_lines k t ls)
 unfolding after
-later-good k t [] h s = rw (reads_none k t) (refused-good Place k)
+later-good k t [] h s = rw (reads_none k t) tt
 later-good k t (l ∷ []) h s = rw (reads-last k t l) (unended-good k t.head t.given l)
 later-good k t (l ∷ (m ∷ ms)) h s = rw (reads_on k t l m ms) (go (line_step k t l) refl (λ u. later-good (k + 1) u (m ∷ ms) (omega arith)))
   where
     go : (x : Step) → line_step k t l ≡ x → ((u : Listing) → Sound u → Good (read_lines (k + 1) u (m ∷ ms))) → Good (after k t (m ∷ ms) x)
     go (goes u) e f = let p = step-placed k t u l e in f u (later-sound (mark_is (mark_of l)) k t l u h s p.0 p.1)
     go ends e f = ended-good k t (m ∷ ms) s
-    go (stops r) e f = refused-good r k
+    go (stops r) e f = tt
 
 first_good : (ls : List (List ℕ)) → Good (read_lines 1 blank ls)
 unfolding after
-first_good [] = rw (reads_none 1 blank) (refused-good Place 1)
+first_good [] = rw (reads_none 1 blank) tt
 first_good (l ∷ []) = rw (reads-last 1 blank l) (unended-good 1 blank.head blank.given l)
 first_good (l ∷ (m ∷ ms)) = rw (reads_on 1 blank l m ms) (go (line_step 1 blank l) refl)
   where
     go : (x : Step) → line_step 1 blank l ≡ x → Good (after 1 blank (m ∷ ms) x)
     go (goes u) e = let p = step-placed 1 blank u l e in later-good 2 u (m ∷ ms) (omega arith) (first-sound (mark_is (mark_of l)) blank.head blank.given l u p.0 p.1)
     go ends e = let p = step-ends 1 blank l e in absurd (first-goes-on (mark_is (mark_of l)) blank.head blank.given l p.0 p.1)
-    go (stops r) e = refused-good r 1
+    go (stops r) e = tt
 
 -- ---- a flow table
 
@@ -318,17 +311,17 @@ module _ (h : Head) (all : List (List ℕ)) (s : SoundHead h) (mealy : h.moore �
   unfolding flow_gives blank
   flow-gives ds f = go (leb (length ds) most_dichotomies) refl
     where
-      go : (b : Bool) → leb (length ds) most_dichotomies ≡ b → Good (cond b (accepted (with_dichotomies ds (with_head h blank))) (refused Limit 0))
-      go true e = λ _. with-dichotomies ds (with_head h blank) (with-head h s, mealy-complete h 0 mealy) (omega (arith, leb-true (length ds) most_dichotomies e)) f
-      go false e = refused-good Limit 0
+      go : (b : Bool) → leb (length ds) most_dichotomies ≡ b → Good (cond b (Ok (with_dichotomies ds (with_head h blank))) (refused Limit 0))
+      go true e = with-dichotomies ds (with_head h blank) (with-head h s, mealy-complete h 0 mealy) (omega (arith, leb-true (length ds) most_dichotomies e)) f
+      go false e = tt
 
   flow-read : (columns : List (List ℕ)) → ((column : List ℕ) → Memᴰ column columns → length column ≤ h.states) → Good (flow_read h columns)
   unfolding flow_read
   flow-read columns f = go (stability columns (states_from 0 h.states))
     where
-      go : (v : Verdict) → Good (elim v as (λ _. Reading) [ Verdict.Accepted ↦ flow_gives h (flow_asks columns) | Verdict.Refused r k ↦ refused r k ])
-      go Verdict.Accepted = flow-gives (flow_asks columns) (table-sound h.states columns f)
-      go (Verdict.Refused r k) = refused-good r k
+      go : (v : Verdict) → Good (elim v as (λ _. Reading) [ Ok _ ↦ flow_gives h (flow_asks columns) | Err why ↦ Err why ])
+      go (Ok tt) = flow-gives (flow_asks columns) (table-sound h.states columns f)
+      go (Err why) = tt
 
   flow-ended : (k : ℕ) (rest : List (List ℕ)) → Good (flow_ended k h all rest)
   unfolding flow_ended
@@ -336,16 +329,16 @@ module _ (h : Head) (all : List (List ℕ)) (s : SoundHead h) (mealy : h.moore �
     where
       go : (b : Bool) → Good (cond b (flow_read h (columns_of h.states (column_count all) (take h.states all))) (refused Place (k + 1)))
       go true = flow-read (columns_of h.states (column_count all) (take h.states all)) (column-short h.states (column_count all) all)
-      go false = refused-good Place (k + 1)
+      go false = tt
 
 flow-unended : (k n : ℕ) (l : List ℕ) → Good (flow_unended k n l)
 unfolding flow_unended
-flow-unended k n [] = refused-good Place k
+flow-unended k n [] = tt
 flow-unended k n (x ∷ xs) = go (flow_placed (mark_is (mark_of (x ∷ xs))) k n)
   where
     go : (b : Bool) → Good (cond b (refused BadLine k) (refused Place k))
-    go true = refused-good BadLine k
-    go false = refused-good Place k
+    go true = tt
+    go false = tt
 
 -- what follows line k of a flow table
 unfoldable pub flow_after : ℕ → Head → List (List ℕ) → List (List ℕ) → FlowStep → Reading
@@ -366,14 +359,14 @@ module _ (k : ℕ) (h : Head) (all : List (List ℕ)) where
 
 flow-good : (k : ℕ) (h : Head) (all ls : List (List ℕ)) → SoundHead h → h.moore ≡ false → Good (flow_lines k h all ls)
 unfolding flow_after
-flow-good k h all [] s e = rw (flow-none k h all) (refused-good Place k)
+flow-good k h all [] s e = rw (flow-none k h all) tt
 flow-good k h all (l ∷ []) s e = rw (flow-last k h all l) (flow-unended k h.states l)
 flow-good k h all (l ∷ (m ∷ ms)) s e = rw (flow-on k h all l m ms) (go (flow_step k h.states (column_count all) l) (flow-good (k + 1) h all (m ∷ ms) s e))
   where
     go : (x : FlowStep) → Good (flow_lines (k + 1) h all (m ∷ ms)) → Good (flow_after k h all (m ∷ ms) x)
     go flow_goes g = g
     go flow_ends g = flow-ended h all s e k (m ∷ ms)
-    go (flow_stops r) g = refused-good r k
+    go (flow_stops r) g = tt
 
 -- all lines, of either kind
 unfoldable pub read_by : Result Head Refusal → List ℕ → List (List ℕ) → Reading
@@ -404,20 +397,13 @@ all-good (l ∷ (m ∷ ms)) = rw (all_two l m ms) (go (flow_head l m) refl)
 -- ---- judged by its rows
 
 judged-good : (v : Verdict) (t : Listing) → Sound t × (complete t.head t.given ≡ true) → Good (judged v t)
-unfolding refused
-judged-good Verdict.Accepted t s = λ e. s
-judged-good (Verdict.Refused r k) t s = refused-good r k
+judged-good (Ok _) t s = s
+judged-good (Err why) t s = tt
 
 checked-good : (r : Reading) → Good r → Good (checked r)
-unfolding conflict refused
-checked-good r g = go r.verdict refl
-  where
-    t : Listing
-    t = r.listing
-
-    go : (v : Verdict) → r.verdict ≡ v → Good (elim v [ Verdict.Accepted ↦ judged (conflict (rows_of t)) t | Verdict.Refused f k ↦ refused f k ])
-    go Verdict.Accepted e = judged-good (conflict (rows_of t)) t (g e)
-    go (Verdict.Refused f k) e = refused-good f k
+unfolding conflict
+checked-good (Ok t) g = judged-good (conflict (rows_of t)) t g
+checked-good (Err why) g = tt
 
 -- whatever the bytes
 accepted-good : (s : List ℕ) → Good (reading s)
@@ -426,10 +412,10 @@ accepted-good s = go (leb (length s) most_bytes)
   where
     go : (b : Bool) → Good (cond b (checked (read_all (lines_of s))) (refused Limit 0))
     go true = checked-good (read_all (lines_of s)) (all-good (lines_of s))
-    go false = refused-good Limit 0
+    go false = tt
 
-pub accepted-sound : (s : List ℕ) → (reading s).verdict ≡ Verdict.Accepted → Sound (reading s).listing
-accepted-sound s e = (accepted-good s e).0
+pub accepted-sound : (s : List ℕ) {t : Listing} → reading s ≡ Ok t → Sound t
+accepted-sound s e = (subst Good e (accepted-good s)).0
 
-pub accepted-complete : (s : List ℕ) → (reading s).verdict ≡ Verdict.Accepted → complete (reading s).listing.head (reading s).listing.given ≡ true
-accepted-complete s e = (accepted-good s e).1
+pub accepted-complete : (s : List ℕ) {t : Listing} → reading s ≡ Ok t → complete t.head t.given ≡ true
+accepted-complete s e = (subst Good e (accepted-good s)).1

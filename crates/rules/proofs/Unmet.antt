@@ -2,7 +2,6 @@
 use mathlib.Core.Path.{◌≡◌, refl, sym, ap, ◌∙◌}
 use mathlib.Core.Logic.{◌↔◌, ⊎_elim}
 use mathlib.Core.Bool.{Bool, true, false, ◌||◌}
-use mathlib.Core.List.Memᴰ
 use mathlib.Core.List.{List, [], ◌∷◌, Memᴰ}
 use Prim.Native.Nat.{ℕ, zero, suc, ◌+◌, ◌<◌}
 use native.Mathlib.Nat.{add-zero}
@@ -14,6 +13,7 @@ use Rattle.rules.specs.Code.{unmet_by, unmet_from}
 use Rattle.rules.specs.declared.Requirement.{Requirement}
 use Rattle.rules.proofs.Or.{neither-first, neither-second, or-first}
 use Rattle.rules.proofs.Judged.{MetByNone, none-judged, met-by-nil, met-by-cons, unmet-judged}
+use mathlib.Core.List.Memᴰ
 
 pub met-by-none : (n : ℕ) (bits : List ℕ) (r : Requirement) → met_by_code n bits r ≡ false → MetByNone n bits r
 met-by-none n [] r e j h = absurd (omega arith)

@@ -5,7 +5,7 @@ use mathlib.Core.Bool.{Bool, true, false, cond}
 use Prim.Native.Nat.{ℕ}
 use native.Mathlib.Omega.{arith}
 use Rattle.rules.specs.declared.Refusal.{Refusal}
-use Rattle.rules.specs.declared.Verdict.{Verdict}
+use Rattle.rules.specs.declared.Refused.{Refused}
 
 module _ {A : Type 0} {a b c : A} where
   pub chose-first : (t : Bool) → cond t a b ≡ c → (b ≡ c → ⊥) → (t ≡ true) × (a ≡ c)
@@ -16,10 +16,14 @@ module _ {A : Type 0} {a b c : A} where
   chose-second true e o = absurd (o e)
   chose-second false e o = (refl, e)
 
-pub not-accepted : (r : Refusal) (k : ℕ) → Verdict.Refused r k ≡ Verdict.Accepted → ⊥
-not-accepted r k e = let z : ◌≡◌ {A = ℕ} 0 1 = cc in omega arith
+pub not-accepted : {A : Type 0} {a : A} {r : Refused} → ◌≡◌ {A = Result A Refused} (Err r) (Ok a) → ⊥
+not-accepted e = let z : ◌≡◌ {A = ℕ} 0 1 = cc in omega arith
 
 module _ {A : Type 0} where
+  -- two answers that accept are of one thing
+  pub same-accepted : {a b : A} → ◌≡◌ {A = Result A Refused} (Ok a) (Ok b) → a ≡ b
+  same-accepted e = cc
+
   -- two answers that are one say one thing
   pub same-ok : {a b : A} → ◌≡◌ {A = Result A Refusal} (Ok a) (Ok b) → a ≡ b
   same-ok e = cc

@@ -19,9 +19,10 @@ use Rattle.rules.specs.declared.Listing.{Listing}
 use Rattle.rules.specs.declared.Requirement.{Requirement}
 use Rattle.rules.specs.declared.Refusal.TheVariants.{TooWide}
 use Rattle.rules.proofs.Built.{most_of, was-built}
-use Rattle.rules.proofs.Reported.{Tells, reported}
+use Rattle.rules.proofs.Reported.{Tells, reported, tells-of}
 use Rattle.rules.proofs.Wider.{leading-bits, Wider, taken-wider}
 use Rattle.rules.proofs.WiderReports.{WiderText, told}
+use Rattle.std.specs.Prelude.{Ok}
 
 -- ---- their codes
 
@@ -135,20 +136,18 @@ module _ (t u : Listing) (alike : Alike t u) (none : t.head.width ≡ 0) where
 -- ---- their reports
 
 -- the reports of any two listings that differ in the width alone, both widths 1 or more, the narrower not above the wider
-pub wider-reports : (s z narrow wide : List ℕ) → report_reply s ≡ says narrow → report_reply z ≡ says wide
-    → let t : Listing = (reading s).listing in
-    let u : Listing = (reading z).listing in
-    Alike t u → 1 ≤ t.head.width → t.head.width ≤ u.head.width
+pub wider-reports : (s z narrow wide : List ℕ) {t u : Listing} → reading s ≡ Ok t → reading z ≡ Ok u → report_reply s ≡ says narrow → report_reply z ≡ says wide
+    → Alike t u → 1 ≤ t.head.width → t.head.width ≤ u.head.width
     → (bits : List ℕ) × (wideBits : List ℕ) × WiderText t.head.width t.head.states bits wideBits narrow wide
-wider-reports s z narrow wide e f a h q =
-    let t : Listing = (reading s).listing in
-    let u : Listing = (reading z).listing in
+wider-reports s z narrow wide {t} {u} read again e f a h q =
     let p = reported s narrow e in
     let r = reported z wide f in
+    let told-narrow = tells-of read p in
+    let told-wide = tells-of again r in
     let d : List ℕ = r.code.bits in
     let same : Tells t.head.states d (requirements t) wide =
-    subst (λ (n : ℕ). Tells n d (requirements t) wide) (same-states t u a) (subst (λ (rs : List Requirement). Tells u.head.states d rs wide) (same_asked t u a) r.tells) in (
+    subst (λ (n : ℕ). Tells n d (requirements t) wide) (same-states t u a) (subst (λ (rs : List Requirement). Tells u.head.states d rs wide) (same_asked t u a) told-wide.1) in (
       p.code.bits,
       d,
-      told t.head.width t.head.states (requirements t) p.code.bits d narrow wide (wider t u a h q p.code r.code p.built r.built) p.tells same,
+      told t.head.width t.head.states (requirements t) p.code.bits d narrow wide (wider t u a h q p.code r.code told-narrow.0 told-wide.0) told-narrow.1 same,
     )

@@ -12,19 +12,17 @@ use lib.Seq.{length-take-le}
 use borrow.Author.Tests.{leb-false}
 use Rattle.sets.specs.Sets.{has, only, states_from}
 use Rattle.rules.specs.Text.{bytes, nought, one, dash, lines_of, field_at}
-use Rattle.rules.specs.Listing.{no_pattern, no_row, rows_of, state_row, all_rows, complete, conflict, reading}
+use Rattle.rules.specs.Listing.{no_pattern, no_row, rows_of, state_row, all_rows, complete, conflict, reading, Reading}
 use Rattle.rules.specs.Requirements.{pairs_and_groups}
 use Rattle.rules.specs.Code.{Code, Coding, coded, uncoded, coding, code_of, unmet_from}
 use Rattle.rules.specs.Report.{digits}
 use Rattle.rules.specs.Cover.{output_at, next_code, cover_row, says_nothing, is_left_out, printed_rows, keeping_all, cover, fires, vector, line_fires}
 use Rattle.rules.specs.Meaning.{free, said_means, output_means, cover_says, agrees_at}
-use Rattle.rules.specs.Answers.{Reply, says, refuses, cover_of, cover_reply}
+use Rattle.rules.specs.Answers.{Reply, says, refuses, cover_of, cover_reply, on_reading}
 use Rattle.rules.specs.declared.Head.{Head}
 use Rattle.rules.specs.declared.Pattern.{Pattern}
 use Rattle.rules.specs.declared.Row.{Row}
 use Rattle.rules.specs.declared.Listing.{Listing}
-use Rattle.rules.specs.declared.Reading.{Reading}
-use Rattle.rules.specs.declared.Verdict.{Verdict}
 use Rattle.rules.specs.declared.Refusal.{Refusal}
 use Rattle.rules.specs.declared.Refusal.TheVariants.{Unmet}
 use Rattle.rules.proofs.Ways.{chose-second}
@@ -41,6 +39,7 @@ use Rattle.rules.proofs.CoverLines.{cover_bodies, cover-lines}
 use Rattle.rules.proofs.Sharing.{accepted-apart}
 use Rattle.rules.proofs.Agreeing.{as-whole, agrees, free-quiet}
 use Rattle.rules.proofs.Moore.{own-state, moore-means, moore-ones, moore-dashes}
+use Rattle.std.specs.Prelude.{Ok, Err}
 
 -- Of output j the firing lines say what the outputs p of an `OU` line do: 1 exactly where they say 1, and dash exactly where they say dash.
 abbrev pub SaysAs : List (List ℕ) → List ℕ → ℕ → Pattern → ℕ → Type 0
@@ -83,11 +82,12 @@ pub record CoverOf (t : Listing) (bits : List ℕ) (text : List ℕ) : Type 0 wh
 
 -- the listing is accepted and coded, under `MO` with an `OU` line for each state, and text is its cover
 pub record Written (r : Reading) (text : List ℕ) : Type 0 where
-  pub accepted : r.verdict ≡ Verdict.Accepted
-  pub each-state : complete r.listing.head r.listing.given ≡ true
+  pub listing : Listing
+  pub accepted : r ≡ Ok listing
+  pub each-state : complete listing.head listing.given ≡ true
   pub code : Code
-  pub built : coding r.listing ≡ coded code
-  pub covers : CoverOf r.listing code.bits text
+  pub built : coding listing ≡ coded code
+  pub covers : CoverOf listing code.bits text
 
 -- ---- a line
 
@@ -135,7 +135,7 @@ not-out : (h : Head) (bits : List ℕ) (r : Row) → h.keeps ≡ true → is_lef
 unfolding is_left_out
 not-out h bits r k = ap (λ (b : Bool). not b && says_nothing bits r) k
 
-cover-of : (t : Listing) (bits text : List ℕ) → Sound t → conflict (rows_of t) ≡ Verdict.Accepted → unmet_from 0 t.head.states bits (pairs_and_groups t) ≡ [] → cover t bits ≡ text → CoverOf t bits text
+cover-of : (t : Listing) (bits text : List ℕ) → Sound t → conflict (rows_of t) ≡ Ok tt → unmet_from 0 t.head.states bits (pairs_and_groups t) ≡ [] → cover t bits ≡ text → CoverOf t bits text
 cover-of t bits text sound apart none e = record {
   distinct = distinct;
   lines = lines;
@@ -203,7 +203,7 @@ none-listed [] e = refl
 none-listed (x ∷ xs) e = absurd (omega (arith, leb-false 1 (suc (length xs)) e))
 
 -- a cover is written where no pair or group requirement is unmet
-of_code : (t : Listing) (c : Code) (text : List ℕ) → Sound t → conflict (rows_of t) ≡ Verdict.Accepted → cover_of t (coded c) ≡ says text → CoverOf t c.bits text
+of_code : (t : Listing) (c : Code) (text : List ℕ) → Sound t → conflict (rows_of t) ≡ Ok tt → cover_of t (coded c) ≡ says text → CoverOf t c.bits text
 unfolding cover_of
 of_code t c text sound apart e =
     let un : List ℕ = unmet_from 0 t.head.states c.bits (pairs_and_groups t) in
@@ -214,27 +214,26 @@ no_code : (t : Listing) (f : Refusal) → cover_of t (uncoded f) ≡ refuses f 0
 unfolding cover_of
 no_code t f = refl
 
-pub of-coding : (t : Listing) (g : Coding) (text : List ℕ) → Sound t → conflict (rows_of t) ≡ Verdict.Accepted → cover_of t g ≡ says text → (c : Code) × (g ≡ coded c) × CoverOf t c.bits text
+pub of-coding : (t : Listing) (g : Coding) (text : List ℕ) → Sound t → conflict (rows_of t) ≡ Ok tt → cover_of t g ≡ says text → (c : Code) × (g ≡ coded c) × CoverOf t c.bits text
 of-coding t (coded c) text sound apart e = (c, refl, of_code t c text sound apart e)
 of-coding t (uncoded f) text sound apart e = absurd (says-not f 0 text (sym (no_code t f) ∙ e))
 
 -- what is said of a listing that is read
-unfoldable pub replied : Reading → Verdict → Reply
-replied r v = elim v [ Verdict.Accepted ↦ cover_of r.listing (coding r.listing) | Verdict.Refused f k ↦ refuses f k ]
+abbrev pub replied : Reading → Reply
+replied r = on_reading r (λ t. cover_of t (coding t))
 
-pub of-reading : (r : Reading) (text : List ℕ) → (r.verdict ≡ Verdict.Accepted → Sound r.listing) → (r.verdict ≡ Verdict.Accepted → complete r.listing.head r.listing.given ≡ true)
-    → (r.verdict ≡ Verdict.Accepted → conflict (rows_of r.listing) ≡ Verdict.Accepted) → (v : Verdict) → r.verdict ≡ v
-    → replied r v ≡ says text → Written r text
-unfolding replied
-of-reading r text sound all apart Verdict.Accepted a e =
-    let w = of-coding r.listing (coding r.listing) text (sound a) (apart a) e in
-    record { accepted = a; each-state = all a; code = w.0; built = w.1; covers = w.2 }
-of-reading r text sound all apart (Verdict.Refused f k) a e = absurd (says-not f k text e)
+pub of-reading : (r : Reading) (text : List ℕ) → ((t : Listing) → r ≡ Ok t → Sound t × (complete t.head t.given ≡ true) × (conflict (rows_of t) ≡ Ok tt))
+    → replied r ≡ says text → Written r text
+of-reading (Ok t) text good e =
+    let g = good t refl in
+    let w = of-coding t (coding t) text g.0 g.2 e in
+    record { listing = t; accepted = refl; each-state = g.1; code = w.0; built = w.1; covers = w.2 }
+of-reading (Err why) text good e = absurd (says-not why.refusal why.line text e)
 
-reply : (s : List ℕ) → cover_reply s ≡ replied (reading s) (reading s).verdict
-unfolding cover_reply replied
+reply : (s : List ℕ) → cover_reply s ≡ replied (reading s)
+unfolding cover_reply
 reply s = refl
 
 -- whatever the bytes
 pub written : (s text : List ℕ) → cover_reply s ≡ says text → Written (reading s) text
-written s text e = of-reading (reading s) text (accepted-sound s) (accepted-complete s) (accepted-apart s) (reading s).verdict refl (sym (reply s) ∙ e)
+written s text e = of-reading (reading s) text (λ t a. (accepted-sound s a, accepted-complete s a, accepted-apart s a)) (sym (reply s) ∙ e)

@@ -1,15 +1,13 @@
 -- 01, "Report and cover" and "Refusal numbers": what each call answers, as a program prints it and as a C host gets it.
-use Rattle.std.specs.Prelude.{cond, List, [], ◌∷◌, ◌++◌, ℕ, leb, length, drop, ℤ, pos}
+use Rattle.std.specs.Prelude.{cond, List, [], ◌∷◌, ◌++◌, ℕ, leb, length, drop, ℤ, pos, Ok, Err}
 use Rattle.rules.specs.Refusals.{number, minus}
 use Rattle.rules.specs.Text.{bytes, space, lf, decimal}
-use Rattle.rules.specs.Listing.{reading}
+use Rattle.rules.specs.Listing.{reading, Reading}
 use Rattle.rules.specs.Requirements.{pairs_and_groups}
 use Rattle.rules.specs.Code.{Coding, coded, uncoded, coding, unmet_from}
 use Rattle.rules.specs.Report.{report}
 use Rattle.rules.specs.Cover.{cover}
 use Rattle.rules.specs.declared.Listing.{Listing}
-use Rattle.rules.specs.declared.Reading.{Reading}
-use Rattle.rules.specs.declared.Verdict.{Verdict}
 use Rattle.rules.specs.declared.Refusal.{Refusal}
 use Rattle.rules.specs.declared.Refusal.TheVariants.{Unmet, NoRoom}
 
@@ -33,7 +31,8 @@ cover_of t (uncoded r) = refuses r 0
 
 -- a listing's own refusal comes first
 abbrev pub on_reading : Reading → (Listing → Reply) → Reply
-on_reading r f = elim r.verdict [ Verdict.Accepted ↦ f r.listing | Verdict.Refused n k ↦ refuses n k ]
+on_reading (Ok t) f = f t
+on_reading (Err why) f = refuses why.refusal why.line
 
 unfoldable pub report_reply : List ℕ → Reply
 unfolding reading report coding

@@ -6,8 +6,7 @@ use Rattle.rules.specs.declared.BitNumber.{BitNumber}
 use Rattle.rules.specs.declared.Refusal.{Refusal}
 use Rattle.rules.specs.declared.Head.{Head}
 use Rattle.std.specs.Prelude.{List, [], ◌∷◌, ℕ, Result, Option, Ok, Err, Some, None}
-use Rattle.rules.specs.Refusals.{number}
-use Rattle.rules.specs.declared.Verdict.{Verdict}
+use Rattle.rules.specs.Refusals.{number, Verdict}
 use Rattle.rules.specs.declared.Refusal.TheVariants.{BadLine}
 
 pub record Numbers : Type 0 where
@@ -19,8 +18,8 @@ holds vs = record { refusal = 0; values = vs }
 
 -- a verdict: the refusal, and its line
 unfoldable pub verdict_numbers : Verdict → Numbers
-verdict_numbers Verdict.Accepted = holds []
-verdict_numbers (Verdict.Refused r line) = record { refusal = number r; values = line ∷ [] }
+verdict_numbers (Ok tt) = holds []
+verdict_numbers (Err why) = record { refusal = number why.refusal; values = why.line ∷ [] }
 
 -- a field that is no number makes its line a bad one
 unfoldable pub numeral_numbers : Option ℕ → Numbers

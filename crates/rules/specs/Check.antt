@@ -1,6 +1,6 @@
 -- 02, request 10: a code and a cover from elsewhere are checked. `OK` says that the codes are distinct, that every group requirement is met, and that the
 -- cover agrees with the listing at each input and state.
-use Rattle.std.specs.Prelude.{Bool, true, false, not, List, [], ◌∷◌, ◌++◌, map, ℕ, zero, suc, ◌+◌, ◌^◌, take, Option, Some, None}
+use Rattle.std.specs.Prelude.{Bool, true, false, not, List, [], ◌∷◌, ◌++◌, map, ℕ, zero, suc, ◌+◌, ◌^◌, take, Option, Some, None, Ok, Err}
 use Rattle.sets.specs.Sets.{states_from}
 use Rattle.rules.specs.Text.{bytes, lf, space, split, lines_of, decimal}
 use Rattle.rules.specs.Listing.{reading}
@@ -13,8 +13,6 @@ use Rattle.rules.specs.Answers.{Reply, says, refuses, on_reading}
 use Rattle.rules.specs.CheckTexts.{bit_in, codes_reading, cover_reading}
 use Rattle.rules.specs.declared.Listing.{Listing}
 use Rattle.rules.specs.declared.CodeTable.{CodeTable}
-use Rattle.rules.specs.declared.CodesReading.{CodesReading}
-use Rattle.rules.specs.declared.Verdict.{Verdict}
 use Rattle.rules.specs.declared.Fault.{Fault}
 
 -- the bits of some codes of n states
@@ -70,16 +68,15 @@ check_text t bits ls = check_line (unmet_from 0 t.head.states bits (pairs_and_gr
 unfoldable pub check_cover : Listing → CodeTable → List (List ℕ) → Reply
 unfolding cover_reading check_text bits_of
 check_cover t c ls = elim (cover_reading (t.head.inputs + c.width) (c.width + t.head.outputs) ls) [
-  | Verdict.Accepted ↦ says (check_text t (bits_of t.head.states c) ls)
-  | Verdict.Refused r k ↦ refuses r k
+  | Ok _ ↦ says (check_text t (bits_of t.head.states c) ls)
+  | Err why ↦ refuses why.refusal why.line
 ]
 
 -- the codes are read before the cover
 unfoldable pub check_codes : Listing → List (List ℕ) → List (List ℕ) → Reply
 unfolding codes_reading check_cover
 check_codes t codes ls =
-    let c : CodesReading = codes_reading t.head.states codes in
-    elim c.verdict [ Verdict.Accepted ↦ check_cover t c.codes ls | Verdict.Refused r k ↦ refuses r k ]
+    elim (codes_reading t.head.states codes) [ Ok c ↦ check_cover t c ls | Err why ↦ refuses why.refusal why.line ]
 
 unfoldable pub check_reply : List ℕ → List ℕ → List ℕ → Reply
 unfolding split reading check_codes

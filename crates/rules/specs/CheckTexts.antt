@@ -7,12 +7,12 @@ use Rattle.rules.specs.Listing.{nothing}
 use Rattle.rules.specs.Replay.{marked}
 use Rattle.rules.specs.declared.Refusal.{Refusal}
 use Rattle.rules.specs.declared.Refusal.TheVariants.{BadLine, Limit, Misfit}
-use Rattle.rules.specs.declared.Verdict.{Verdict}
+use Rattle.rules.specs.Refusals.{Verdict, refused}
 use Rattle.rules.specs.declared.CodeTable.{CodeTable}
-use Rattle.rules.specs.declared.CodesReading.{CodesReading}
 use Rattle.rules.specs.declared.CoverPart.{CoverPart}
 use Rattle.rules.specs.declared.CoverPart.TheVariants.{Inputs, Outputs, Kind, Products, Rows, Over}
 use Rattle.rules.specs.declared.CoverHeads.{CoverHeads}
+use Rattle.rules.specs.declared.Refused.{Refused}
 
 -- ---- the codes: `SC state code` for each state, in order
 
@@ -39,11 +39,9 @@ code_good w s l = eqb (length (fields_of l)) 3 && (same (mark_of l) (bytes "SC")
 abbrev pub no_codes : CodeTable
 no_codes = record { width = 0; table = replicate most_states 0 }
 
-unfoldable pub codes_refused : ℕ → CodesReading
-codes_refused k = record { verdict = Verdict.Refused BadLine k; codes = no_codes }
-
-unfoldable pub codes_read : CodeTable → CodesReading
-codes_read c = record { verdict = Verdict.Accepted; codes = c }
+-- what the reader of codes gives: the codes, or the refusal and its line
+abbrev pub CodesReading : Type 0
+CodesReading = Result CodeTable Refused
 
 abbrev pub with_code : ℕ → ℕ → CodeTable → CodeTable
 with_code s code c = record { width = c.width; table = set c.table s code }
@@ -51,12 +49,12 @@ with_code s code c = record { width = c.width; table = set c.table s code }
 -- The lines of the states from s on, of which so many are to come: a bad one, one without LF, a missing one and bytes behind the last one are all 1, at
 -- the line where the state's own stands or would stand.
 unfoldable pub codes_from : ℕ → ℕ → CodeTable → List (List ℕ) → CodesReading
-unfolding codes_refused codes_read code_good nothing set_of split
-codes_from s zero c ls = elim (nothing ls) [ true ↦ codes_read c | false ↦ codes_refused (s + 1) ]
-codes_from s (suc k) c [] = codes_refused (s + 1)
-codes_from s (suc k) c (l ∷ []) = codes_refused (s + 1)
+unfolding code_good nothing set_of split
+codes_from s zero c ls = elim (nothing ls) [ true ↦ Ok c | false ↦ refused BadLine (s + 1) ]
+codes_from s (suc k) c [] = refused BadLine (s + 1)
+codes_from s (suc k) c (l ∷ []) = refused BadLine (s + 1)
 codes_from s (suc k) c (l ∷ (m ∷ ms)) =
-    elim (code_good c.width s l) [ true ↦ codes_from (s + 1) k (with_code s (set_of one (field_at l 2)) c) (m ∷ ms) | false ↦ codes_refused (s + 1) ]
+    elim (code_good c.width s l) [ true ↦ codes_from (s + 1) k (with_code s (set_of one (field_at l 2)) c) (m ∷ ms) | false ↦ refused BadLine (s + 1) ]
 
 -- all codes are as long as the first
 unfoldable pub codes_reading : ℕ → List (List ℕ) → CodesReading
@@ -134,7 +132,7 @@ cover_line h l = cover_line_in h.part h l
 
 -- 15: `.i` or `.o` does not fit, `.i` first
 unfoldable pub fitting : ℕ → ℕ → CoverHeads → Verdict
-fitting i o h = cond (eqb h.inputs i) (cond (eqb h.outputs o) Verdict.Accepted (Verdict.Refused Misfit 2)) (Verdict.Refused Misfit 1)
+fitting i o h = cond (eqb h.inputs i) (cond (eqb h.outputs o) (Ok tt) (refused Misfit 2)) (refused Misfit 1)
 
 unfoldable pub is_over : CoverPart → Bool
 is_over Inputs = false
@@ -147,15 +145,15 @@ is_over Over = true
 -- what stands behind the last LF, as line k: nothing, behind `.e`
 unfoldable pub cover_end : ℕ → ℕ → ℕ → CoverHeads → List ℕ → Verdict
 unfolding fitting is_over
-cover_end i o k h [] = cond (is_over h.part) (fitting i o h) (Verdict.Refused BadLine k)
-cover_end i o k h (x ∷ xs) = Verdict.Refused BadLine k
+cover_end i o k h [] = cond (is_over h.part) (fitting i o h) (refused BadLine k)
+cover_end i o k h (x ∷ xs) = refused BadLine k
 
 -- the lines from number k on, behind those that said h, of a cover that has to have i inputs and o outputs
 unfoldable pub cover_from : ℕ → ℕ → ℕ → CoverHeads → List (List ℕ) → Verdict
 unfolding cover_end cover_line
-cover_from i o k h [] = Verdict.Refused BadLine k
+cover_from i o k h [] = refused BadLine k
 cover_from i o k h (l ∷ []) = cover_end i o k h l
-cover_from i o k h (l ∷ (m ∷ ms)) = elim (cover_line h l) [ Ok g ↦ cover_from i o (k + 1) g (m ∷ ms) | Err r ↦ Verdict.Refused r k ]
+cover_from i o k h (l ∷ (m ∷ ms)) = elim (cover_line h l) [ Ok g ↦ cover_from i o (k + 1) g (m ∷ ms) | Err r ↦ refused r k ]
 
 unfoldable pub cover_reading : ℕ → ℕ → List (List ℕ) → Verdict
 unfolding cover_from

@@ -1,12 +1,12 @@
 -- 02, request 05, and 001, section VI.A: what a flow table says. A column is its entries, state by state from 0: the next state's number, or a dash.
-use Rattle.std.specs.Prelude.{Bool, true, false, ◌&&◌, ◌||◌, not, List, [], ◌∷◌, ◌++◌, map, ℕ, ◌+◌, get_or, ltb, eqb}
+use Rattle.std.specs.Prelude.{Bool, true, false, ◌&&◌, ◌||◌, not, List, [], ◌∷◌, ◌++◌, map, ℕ, ◌+◌, get_or, ltb, eqb, Ok}
 use Rattle.std.specs.Int.Bits.{bit_or}
 use Rattle.sets.specs.Sets.{has, only}
 use Rattle.rules.specs.Limits.{most_states}
 use Rattle.rules.specs.Text.{set_of}
 use Rattle.rules.specs.declared.Requirement.{Requirement}
 use Rattle.rules.specs.declared.Refusal.TheVariants.{Unstable}
-use Rattle.rules.specs.declared.Verdict.{Verdict}
+use Rattle.rules.specs.Refusals.{Verdict, refused}
 
 -- a dash: no state has this number
 abbrev pub no_state : ℕ
@@ -58,5 +58,5 @@ goes_well (column ∷ columns) s = is_stable column (get_or column s no_state) &
 -- the first of the states that does not: 13 at its line, which for state 0 is line 2
 unfoldable pub stability : List (List ℕ) → List ℕ → Verdict
 unfolding goes_well
-stability columns [] = Verdict.Accepted
-stability columns (s ∷ ss) = elim (goes_well columns s) [ true ↦ stability columns ss | false ↦ Verdict.Refused Unstable (s + 2) ]
+stability columns [] = Ok tt
+stability columns (s ∷ ss) = elim (goes_well columns s) [ true ↦ stability columns ss | false ↦ refused Unstable (s + 2) ]

@@ -1,12 +1,12 @@
 -- 02, request 01: the listing that a KISS2 text says. Lines from the top, the first faulty line decides, within it 3, 1, 12, 2; then a `.s` or `.p` that disagrees, 12;
 -- then the conflict.
-use Rattle.std.specs.Prelude.{Bool, true, false, ◌&&◌, ◌||◌, not, cond, List, [], ◌∷◌, ◌++◌, map, ℕ, ◌+◌, length, take, get_or, set, replicate, leb, ltb, eqb, Option, Some, None}
+use Rattle.std.specs.Prelude.{Bool, true, false, ◌&&◌, ◌||◌, not, cond, List, [], ◌∷◌, ◌++◌, map, ℕ, ◌+◌, length, take, get_or, set, replicate, leb, ltb, eqb, Option, Some, None, Ok}
 use Rattle.std.specs.Int.Bits.{bit_and, bit_or}
 use Rattle.sets.specs.Sets.{only, everyone}
 use Rattle.rules.specs.Limits.{most_bytes, most_states, most_inputs, most_outputs, most_rows, most_dichotomies}
 use Rattle.rules.specs.Text.{one, dash, same, set_of, split, lines_of, fields_of, field_at, mark_of}
 use Rattle.rules.specs.KissLines.{kiss_mark, number_line, is_star, is_short, reset_fits, row_fields_fit, first_place}
-use Rattle.rules.specs.Listing.{no_pattern, no_row, no_requirement, rows_of, refused, nothing, conflict, or_else, judged}
+use Rattle.rules.specs.Listing.{no_pattern, no_row, no_requirement, rows_of, nothing, conflict, or_else, judged, Reading}
 use Rattle.rules.specs.declared.Pattern.{Pattern}
 use Rattle.rules.specs.declared.Row.{Row}
 use Rattle.rules.specs.declared.Listing.{Listing}
@@ -15,8 +15,7 @@ use Rattle.rules.specs.declared.KissHeads.{KissHeads}
 use Rattle.rules.specs.declared.KissMark.{KissMark}
 use Rattle.rules.specs.declared.Refusal.{Refusal}
 use Rattle.rules.specs.declared.Refusal.TheVariants.{BadLine, Limit, Place, Names}
-use Rattle.rules.specs.declared.Verdict.{Verdict}
-use Rattle.rules.specs.declared.Reading.{Reading}
+use Rattle.rules.specs.Refusals.{Verdict, refused}
 
 -- ---- what the lines so far have said
 
@@ -205,7 +204,7 @@ listing_of h n rows table = record {
 
 -- a header that told another number than the count is 12 at its line
 unfoldable pub disagrees : Told → ℕ → Verdict
-disagrees t count = cond (eqb t.line 0 || eqb t.number count) Verdict.Accepted (Verdict.Refused Names t.line)
+disagrees t count = cond (eqb t.line 0 || eqb t.number count) (Ok tt) (refused Names t.line)
 
 -- `.s` counts the names, `.p` the lines of rows before they are joined; the earlier line first
 unfoldable pub disagreement : KissHeads → ℕ → Verdict
@@ -218,25 +217,25 @@ disagreement h n =
 
 -- when all lines are read: 12, then 6
 unfoldable pub kiss_made : KissHeads → ℕ → ℕ → List Row → Reading
-unfolding disagreement conflict listing_of refused
+unfolding disagreement conflict listing_of
 kiss_made h n rows table = judged (or_else (disagreement h n) (conflict (rows_of (listing_of h n rows table)))) (listing_of h n rows table)
 
 -- ---- the end
 
 -- after `.e`, which stood on line k: bytes after it are 3
 unfoldable pub kiss_ended : ℕ → Draft → List (List ℕ) → Reading
-unfolding refused nothing kiss_made
+unfolding nothing kiss_made
 kiss_ended k d rest = cond (nothing rest) (kiss_made d.heads (length d.names) d.rows d.table) (refused Place (k + 1))
 
 -- what stands behind the last LF, as line k: nothing, so `.e` is missing; or a line without LF, whose place is judged before that
 unfoldable pub kiss_unended : ℕ → KissHeads → List ℕ → Reading
-unfolding refused kiss_placed mark_of kiss_mark
+unfolding kiss_placed mark_of kiss_mark
 kiss_unended k h [] = refused Place k
 kiss_unended k h (x ∷ xs) = cond (kiss_placed (kiss_mark (mark_of (x ∷ xs))) h) (refused BadLine k) (refused Place k)
 
 -- the lines from number k on, behind those that made d
 unfoldable pub kiss_lines : ℕ → Draft → List (List ℕ) → Reading
-unfolding refused kiss_unended kiss_ended kiss_step
+unfolding kiss_unended kiss_ended kiss_step
 kiss_lines k d [] = refused Place k
 kiss_lines k d (l ∷ []) = kiss_unended k d.heads l
 kiss_lines k d (l ∷ (m ∷ ms)) =
@@ -248,5 +247,5 @@ kiss_lines k d (l ∷ (m ∷ ms)) =
 
 -- any bytes at all: the listing, or the refusal and its line
 unfoldable pub kiss_reading : List ℕ → Reading
-unfolding split kiss_lines no_draft refused
+unfolding split kiss_lines no_draft
 kiss_reading s = cond (leb (length s) most_bytes) (kiss_lines 1 no_draft (lines_of s)) (refused Limit 0)

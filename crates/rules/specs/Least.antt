@@ -3,15 +3,15 @@ use Rattle.std.specs.Prelude.{Bool, true, false, ◌&&◌, cond, List, [], ◌�
 use Rattle.sets.specs.Sets.{has, states_from}
 use Rattle.rules.specs.Limits.{most_bytes, most_small, most_small_asked, most_small_bits}
 use Rattle.rules.specs.Text.{split, lines_of}
-use Rattle.rules.specs.Listing.{blank, refused, goes, ends, stops, line_step, reading}
+use Rattle.rules.specs.Listing.{blank, goes, ends, stops, line_step, reading, Reading}
 use Rattle.rules.specs.Requirements.{requirements}
 use Rattle.rules.specs.Code.{Coding, coded, uncoded, unmet_from}
 use Rattle.rules.specs.Report.{report}
 use Rattle.rules.specs.Answers.{Reply, on_reading, report_of, cover_of}
 use Rattle.rules.specs.declared.Requirement.{Requirement}
 use Rattle.rules.specs.declared.Listing.{Listing}
-use Rattle.rules.specs.declared.Reading.{Reading}
 use Rattle.rules.specs.declared.Refusal.TheVariants.{Limit, NoShortCode}
+use Rattle.rules.specs.Refusals.{refused}
 
 -- ---- columns
 
@@ -99,7 +99,7 @@ begins_large (l ∷ (m ∷ ms)) = elim (line_step 1 blank l) [ goes t ↦ ltb mo
 
 -- more states are a fault of line 1, and so come before any of a later line
 unfoldable pub small_reading : List ℕ → Reading
-unfolding split begins_large refused reading
+unfolding split begins_large reading
 small_reading s = cond (leb (length s) most_bytes && begins_large (lines_of s)) (refused Limit 1) (reading s)
 
 -- ---- what is said of a listing: the report of its least code, and the cover in it

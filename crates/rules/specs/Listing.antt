@@ -18,8 +18,8 @@ use Rattle.rules.specs.declared.Mark.{Mark}
 use Rattle.rules.specs.declared.Mark.TheVariants.{Mc, Mo, Pt, Di, Ou, Ft, En, Unknown}
 use Rattle.rules.specs.declared.Refusal.{Refusal}
 use Rattle.rules.specs.declared.Refusal.TheVariants.{BadLine, Limit, Place, Conflict, NoOutputs}
-use Rattle.rules.specs.declared.Verdict.{Verdict}
-use Rattle.rules.specs.declared.Reading.{Reading}
+use Rattle.rules.specs.Refusals.{Verdict, refused}
+use Rattle.rules.specs.declared.Refused.{Refused}
 
 -- ---- a listing as it grows
 
@@ -102,12 +102,9 @@ all_rows t = rows_of t ++ cond t.head.moore (state_rows 0 (take t.head.states t.
 
 -- ---- the lines
 
-abbrev pub accepted : Listing → Reading
-accepted t = record { verdict = Verdict.Accepted; listing = t }
-
-unfoldable pub refused : Refusal → ℕ → Reading
-unfolding blank
-refused r line = record { verdict = Verdict.Refused r line; listing = blank }
+-- what the reader of a whole text gives: the listing, or the refusal and its line
+abbrev pub Reading : Type 0
+Reading = Result Listing Refused
 
 -- what one line does: the listing goes on, or ends with it, or is refused
 pub data Step : Type 0 where
@@ -186,18 +183,18 @@ complete h given = not h.moore || every h.states (λ s. eqb (has given s) 1)
 
 -- after `EN`, which stood on line k: bytes after it are 3, then a state without `OU` is 17
 unfoldable pub ended : ℕ → Listing → List (List ℕ) → Reading
-unfolding refused nothing complete
-ended k t rest = cond (nothing rest) (cond (complete t.head t.given) (accepted t) (refused NoOutputs k)) (refused Place (k + 1))
+unfolding nothing complete
+ended k t rest = cond (nothing rest) (cond (complete t.head t.given) (Ok t) (refused NoOutputs k)) (refused Place (k + 1))
 
 -- what stands behind the last LF, as line k: nothing, so `EN` is missing; or a line without LF, whose place is judged before that
 unfoldable pub unended : ℕ → Head → ℕ → List ℕ → Reading
-unfolding refused placed mark_of mark_is
+unfolding placed mark_of mark_is
 unended k h given [] = refused Place k
 unended k h given (x ∷ xs) = cond (placed (mark_is (mark_of (x ∷ xs))) k h given (x ∷ xs)) (refused BadLine k) (refused Place k)
 
 -- the lines from number k on, behind those that made t
 unfoldable pub read_lines : ℕ → Listing → List (List ℕ) → Reading
-unfolding refused unended ended line_step
+unfolding unended ended line_step
 read_lines k t [] = refused Place k
 read_lines k t (l ∷ []) = unended k t.head t.given l
 read_lines k t (l ∷ (m ∷ ms)) =
@@ -221,28 +218,28 @@ with_dichotomies (d ∷ ds) t = with_dichotomies ds (with_dichotomy d t)
 
 -- more than 64 are too many
 unfoldable pub flow_gives : Head → List Requirement → Reading
-unfolding blank refused with_dichotomies
-flow_gives h ds = cond (leb (length ds) most_dichotomies) (accepted (with_dichotomies ds (with_head h blank))) (refused Limit 0)
+unfolding blank with_dichotomies
+flow_gives h ds = cond (leb (length ds) most_dichotomies) (Ok (with_dichotomies ds (with_head h blank))) (refused Limit 0)
 
 -- what a table of these columns gives, if each destination is stable
 unfoldable pub flow_read : Head → List (List ℕ) → Reading
-unfolding refused flow_gives flow_asks stability states_from
-flow_read h columns = elim (stability columns (states_from 0 h.states)) [ Verdict.Accepted ↦ flow_gives h (flow_asks columns) | Verdict.Refused r k ↦ refused r k ]
+unfolding flow_gives flow_asks stability states_from
+flow_read h columns = elim (stability columns (states_from 0 h.states)) [ Ok _ ↦ flow_gives h (flow_asks columns) | Err why ↦ Err why ]
 
 -- after `EN`, which stood on line k: bytes after it are 3
 unfoldable pub flow_ended : ℕ → Head → List (List ℕ) → List (List ℕ) → Reading
-unfolding refused nothing flow_read columns_of column_count
+unfolding nothing flow_read columns_of column_count
 flow_ended k h all rest = cond (nothing rest) (flow_read h (columns_of h.states (column_count all) (take h.states all))) (refused Place (k + 1))
 
 -- what stands behind the last LF, as line k
 unfoldable pub flow_unended : ℕ → ℕ → List ℕ → Reading
-unfolding refused flow_placed mark_of mark_is
+unfolding flow_placed mark_of mark_is
 flow_unended k n [] = refused Place k
 flow_unended k n (x ∷ xs) = cond (flow_placed (mark_is (mark_of (x ∷ xs))) k n) (refused BadLine k) (refused Place k)
 
 -- the lines from number k on, of all those behind the head
 unfoldable pub flow_lines : ℕ → Head → List (List ℕ) → List (List ℕ) → Reading
-unfolding refused flow_unended flow_ended flow_step column_count
+unfolding flow_unended flow_ended flow_step column_count
 flow_lines k h all [] = refused Place k
 flow_lines k h all (l ∷ []) = flow_unended k h.states l
 flow_lines k h all (l ∷ (m ∷ ms)) =
@@ -289,31 +286,31 @@ clash a b = meets a b && not (eqb a.next 0) && not (eqb b.next 0) && not (eqb a.
 -- the first of the rows that clashes with a: refused at its line
 unfoldable pub clash_with : Row → List Row → Verdict
 unfolding clash
-clash_with a [] = Verdict.Accepted
-clash_with a (b ∷ bs) = elim (clash a b) [ true ↦ Verdict.Refused Conflict b.line | false ↦ clash_with a bs ]
+clash_with a [] = Ok tt
+clash_with a (b ∷ bs) = elim (clash a b) [ true ↦ refused Conflict b.line | false ↦ clash_with a bs ]
 
 abbrev pub or_else : Verdict → Verdict → Verdict
-or_else Verdict.Accepted v = v
-or_else (Verdict.Refused r k) v = Verdict.Refused r k
+or_else (Ok tt) v = v
+or_else (Err why) v = Err why
 
 -- pairs are ordered by the earlier row and then the later one, and the scan stops at the first that clashes
 unfoldable pub conflict : List Row → Verdict
 unfolding clash_with
-conflict [] = Verdict.Accepted
+conflict [] = Ok tt
 conflict (a ∷ rest) = or_else (clash_with a rest) (conflict rest)
 
 -- ---- the whole
 
 abbrev pub judged : Verdict → Listing → Reading
-unfolding refused
-judged Verdict.Accepted t = accepted t
-judged (Verdict.Refused r k) t = refused r k
+judged (Ok _) t = Ok t
+judged (Err why) t = Err why
 
 abbrev pub checked : Reading → Reading
-unfolding conflict refused
-checked r = elim r.verdict [ Verdict.Accepted ↦ judged (conflict (rows_of r.listing)) r.listing | Verdict.Refused n k ↦ refused n k ]
+unfolding conflict
+checked (Ok t) = judged (conflict (rows_of t)) t
+checked (Err why) = Err why
 
 -- any bytes at all: the listing, or the refusal and its line
 unfoldable pub reading : List ℕ → Reading
-unfolding split read_all conflict refused
+unfolding split read_all conflict
 reading s = cond (leb (length s) most_bytes) (checked (read_all (lines_of s))) (refused Limit 0)

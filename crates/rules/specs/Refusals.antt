@@ -1,7 +1,8 @@
 -- 01, "Refusal numbers", with 12 to 17 of 02, requests 01, 05, 08, 10, 11 and 13: the number of each refusal, and what a C host gets for one. 8 is unused: no bit can meet nothing that was unmet
 -- (02, request 06).
-use Rattle.std.specs.Prelude.{ℕ, ◌+◌, ◌*◌, ℤ, pos, neg_ℤ}
+use Rattle.std.specs.Prelude.{ℕ, ◌+◌, ◌*◌, ℤ, pos, neg_ℤ, Result, Err}
 use Rattle.rules.specs.declared.Refusal.{Refusal}
+use Rattle.rules.specs.declared.Refused.{Refused}
 use Rattle.rules.specs.declared.Refusal.TheVariants.{BadLine, Limit, Place, EmptyGroup, NextState, Conflict, TooWide, Unmet, NoRoom, BadCall, Names, Unstable, NoNext, Misfit, NoShortCode, NoOutputs}
 
 abbrev pub number : Refusal → ℕ
@@ -21,6 +22,14 @@ number NoNext = 14
 number Misfit = 15
 number NoShortCode = 16
 number NoOutputs = 17
+
+-- a refusal at a line, in place of what was asked for
+abbrev pub refused : {A : Type 0} → Refusal → ℕ → Result A Refused
+refused r k = Err (record { refusal = r; line = k })
+
+-- what a call comes to that gives nothing but leave to go on
+abbrev pub Verdict : Type 0
+Verdict = Result (Unit {0}) Refused
 
 -- minus (number × 100,000 + line)
 unfoldable pub minus : Refusal → ℕ → ℤ

@@ -1,5 +1,5 @@
 -- 01, "Looks": the trial record, for single moves.
-use Rattle.std.specs.Prelude.{Bool, true, ◌&&◌, cond, List, [], ◌∷◌, ℕ, ◌+◌, ◌^◌, leb, ltb, eqb, length, ℤ}
+use Rattle.std.specs.Prelude.{Bool, true, ◌&&◌, cond, List, [], ◌∷◌, ℕ, ◌+◌, ◌^◌, leb, ltb, eqb, length, ℤ, Ok}
 use Rattle.std.specs.Int.Bits.{bit_and}
 use Rattle.sets.specs.Sets.{has, flip}
 use Rattle.rules.specs.Limits.{most_states, most_trial}
@@ -7,7 +7,7 @@ use Rattle.rules.specs.Looks.{move_looks}
 use Rattle.rules.specs.OneBit.{gain}
 use Rattle.rules.specs.declared.Requirement.{Requirement}
 use Rattle.rules.specs.declared.StateNumber.{StateNumber}
-use Rattle.rules.specs.declared.Verdict.{Verdict}
+use Rattle.rules.specs.Refusals.{Verdict, refused}
 use Rattle.rules.specs.declared.Refusal.TheVariants.{BadCall}
 
 -- n states, the requirements, the bit, the states that have moved, and the looks so far
@@ -28,10 +28,10 @@ pub record Tried : Type 0 where
   pub trial : Trial
 
 abbrev pub taken : Trial → Tried
-taken t = record { verdict = Verdict.Accepted; trial = t }
+taken t = record { verdict = Ok tt; trial = t }
 
 abbrev pub turned_down : Trial → Tried
-turned_down t = record { verdict = Verdict.Refused BadCall 0; trial = t }
+turned_down t = record { verdict = refused BadCall 0; trial = t }
 
 -- no mask bit at n or above
 abbrev pub within : ℕ → ℕ → Bool

@@ -158,11 +158,32 @@ impl Refusal {
     }
 }
 
-// A call's outcome: accepted, or refused at a line.
+// A refusal, and the line where it stands; line 0 is the whole text.
 #[derive(Clone, Copy)]
-pub enum Verdict {
-    Accepted,
-    Refused(Refusal, usize),
+pub struct Refused {
+    pub refusal: Refusal,
+    pub line: usize,
+}
+
+impl Refusal {
+    // The refusal at a line.
+    pub fn at(self, line: usize) -> Refused
+        ensures { result ≡ record { refusal = self; line = line } }
+    {
+        Refused {
+            refusal: self,
+            line,
+        }
+    }
+}
+
+// A refusal that stands at no line is one of the whole text.
+impl From<Refusal> for Refused {
+    ghost from_gives = { λ r e. e ≡ record { refusal = r; line = 0 } };
+
+    fn from(refusal: Refusal) -> Refused {
+        refusal.at(0)
+    }
 }
 
 // The mark that leads a line.
@@ -216,17 +237,9 @@ pub struct StateOutputs {
     pub outputs: Pattern,
 }
 
-// What the reader of a whole listing answers; the listing is blank where it is refused.
-#[derive(Clone, Copy)]
-pub struct Reading {
-    pub verdict: Verdict,
-    pub listing: Listing,
-}
-
 // What the encoder answers: a code, bit k the set of the states with value 1 in it; how many requirements there are, and how many of them no bit meets.
 #[derive(Clone, Copy)]
 pub struct Encoding {
-    pub verdict: Verdict,
     pub width: usize,
     pub bits: [u64; MOST_BITS],
     pub asked: usize,
@@ -240,13 +253,6 @@ pub struct Encoding {
 pub struct CodeTable {
     pub width: usize,
     pub table: [u64; MOST_STATES],
-}
-
-// What the reader of `SC` lines answers; where it is refused there are no bits.
-#[derive(Clone, Copy)]
-pub struct CodesReading {
-    pub verdict: Verdict,
-    pub codes: CodeTable,
 }
 
 // The line that comes next in a cover.
