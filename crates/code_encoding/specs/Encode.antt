@@ -1,32 +1,33 @@
 -- What the encoder answers for a listing: 01's code, with how many requirements it leaves unmet.
-use Rattle.std.specs.Prelude.{cond, length, replicate}
+use Rattle.std.specs.Prelude.{cond, length, replicate, Ok, Result}
 use Rattle.sets.specs.Places.{padded}
 use Rattle.rules.specs.Limits.{most_bits}
 use Rattle.rules.specs.Requirements.{requirements}
 use Rattle.rules.specs.Code.{Coding, coded, uncoded, coding, unmet}
 use Rattle.rules.specs.declared.Listing.{Listing}
 use Rattle.rules.specs.declared.Encoding.{Encoding}
-use Rattle.rules.specs.declared.Verdict.{Verdict}
 use Rattle.rules.specs.declared.Refusal.TheVariants.{Limit}
 use Rattle.code_fair.specs.Fair.{fair}
+use Rattle.rules.specs.Refusals.{refused}
+use Rattle.rules.specs.declared.Refused.{Refused}
 
-unfoldable pub no_encoding : Verdict → Encoding
-no_encoding v = record { verdict = v; width = 0; bits = replicate most_bits 0; asked = 0; unmet = 0; passes = 0; looks = 0 }
+-- where nothing is to be coded
+unfoldable pub no_code : Encoding
+no_code = record { width = 0; bits = replicate most_bits 0; asked = 0; unmet = 0; passes = 0; looks = 0 }
 
-unfoldable pub encoded_as : Listing → Coding → Encoding
-unfolding no_encoding unmet requirements
-encoded_as t (coded c) = record {
-  verdict = Verdict.Accepted;
+unfoldable pub encoded_as : Listing → Coding → Result Encoding Refused
+unfolding unmet requirements
+encoded_as t (coded c) = Ok (record {
   width = length c.bits;
   bits = padded most_bits 0 c.bits;
   asked = length (requirements t);
   unmet = length (unmet t c.bits);
   passes = c.passes;
   looks = c.looks;
-}
-encoded_as t (uncoded r) = no_encoding (Verdict.Refused r 0)
+})
+encoded_as t (uncoded r) = refused r 0
 
 -- a listing that is not within the limits, as no reader gives one, is refused 2 at line 0
-unfoldable pub encoded : Listing → Encoding
-unfolding fair encoded_as no_encoding coding
-encoded t = cond (fair t) (encoded_as t (coding t)) (no_encoding (Verdict.Refused Limit 0))
+unfoldable pub encoded : Listing → Result Encoding Refused
+unfolding fair encoded_as coding
+encoded t = cond (fair t) (encoded_as t (coding t)) (refused Limit 0)

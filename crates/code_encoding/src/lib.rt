@@ -3,15 +3,23 @@
 
 ghost use Rattle.std.specs.Prelude.{◌≡◌, cond, not, ◌&&◌, eqb};
 ghost use Rattle.rules.specs.Limits.{most_bits};
-ghost use Rattle.code_encoding.specs.Encode.{no_encoding};
-ghost use Rattle.rules.specs.declared.Verdict.{Verdict};
+ghost use Rattle.rules.specs.Refusals.{refused};
+ghost use Rattle.code_encoding.specs.Encode.{no_code};
 
-// No code, and why.
-pub fn uncoded_as(r: rules::Refusal) -> rules::Encoding
-    ensures { result ≡ no_encoding (Verdict.Refused r 0) }
+use rules::{Encoding, Refusal, Refused};
+
+// No code, and why: it is refused as a whole, at line 0.
+pub fn uncoded_as(r: Refusal) -> Result<Encoding, Refused>
+    ensures { result ≡ refused r 0 }
 {
-    rules::Encoding {
-        verdict: rules::Verdict::Refused(r, 0),
+    Err(r.at(0))
+}
+
+// What stands in place of a code where nothing is to be coded.
+pub fn no_code() -> Encoding
+    ensures { result ≡ no_code }
+{
+    Encoding {
         width: 0,
         bits: [0u64; rules::MOST_BITS],
         asked: 0,
@@ -35,8 +43,5 @@ pub fn most_of(width: usize) -> usize
 pub fn falls_short(width: usize, live: usize) -> bool
     ensures { result ≡ (eqb width 0 && not (eqb live 0)) }
 {
-    if width == 0 {
-        return live != 0;
-    }
-    false
+    width == 0 && live != 0
 }
