@@ -13,7 +13,6 @@ use Rattle.rules.specs.Code.{Code, coded, uncoded, build, coding, unmet, unmet_f
 use Rattle.rules.specs.declared.Requirement.{Requirement}
 use Rattle.rules.specs.declared.Listing.{Listing}
 use Rattle.rules.specs.declared.Encoding.{Encoding}
-use Rattle.rules.specs.declared.Verdict.{Verdict}
 use Rattle.rules.specs.declared.Refusal.TheVariants.{TooWide}
 use Rattle.rules.proofs.Unmet.{unmet-all}
 use Rattle.rules.proofs.Good.{AllGood}
@@ -24,11 +23,14 @@ use Rattle.families.specs.Families.{requirements_in}
 use Rattle.move_pairs.specs.Pairs.{live_pairs}
 use Rattle.bit_live.specs.Live.{live_in}
 use Rattle.bit_live.proofs.Next.{Within}
-use Rattle.code_encoding.specs.Encode.{no_encoding, encoded_as}
+use Rattle.code_encoding.specs.Encode.{encoded_as}
 use Rattle.code_drawing.specs.Drawing.{families_of}
 use Rattle.code_drawing.proofs.Requirements.{families-are}
 use Rattle.code_drawing.proofs.Within.{families-within}
 use Rattle.code_building.specs.Build.{Asked, Begun, Done, answer, encoded_for}
+use Rattle.rules.specs.Refusals.{refused}
+use Rattle.std.specs.Prelude.{Ok, Result}
+use Rattle.rules.specs.declared.Refused.{Refused}
 
 drop-replicate : (k w v : ℕ) → drop k (replicate w v) ≡ replicate (w - k) v
 drop-replicate zero w v = let e : w ≡ w - 0 = omega arith in ap (λ (j : ℕ). replicate j v) e
@@ -63,24 +65,23 @@ module _ (n width : ℕ) (rs : List Requirement) (m : ℕ) (em : m ≡ cond (eqb
   code = build m n rs
 
   -- the answer, by whether the code falls short
-  by_code : (a : Bool) → a ≡ (eqb width 0 && not (eqb live 0)) → cond a (no_encoding (Verdict.Refused TooWide 0)) (answer n rs code) ≡ encoded_for n width rs
+  by_code : (a : Bool) → a ≡ (eqb width 0 && not (eqb live 0)) → cond a (refused TooWide 0) (Ok (answer n rs code)) ≡ encoded_for n width rs
   unfolding encoded_for code
   by_code a h =
-      ap (λ (b : Bool). cond b (no_encoding (Verdict.Refused TooWide 0)) (answer n rs code)) (h ∙ ap (λ (k : ℕ). eqb width 0 && not (eqb k 0)) d.left)
-      ∙ ap (λ (k : ℕ). cond (eqb width 0 && not (eqb (length (unmet_from 0 n (build k n rs).bits rs)) 0)) (no_encoding (Verdict.Refused TooWide 0)) (answer n rs (build k n rs))) em
+      ap (λ (b : Bool). cond b (refused TooWide 0) (Ok (answer n rs code))) (h ∙ ap (λ (k : ℕ). eqb width 0 && not (eqb k 0)) d.left)
+      ∙ ap (λ (k : ℕ). cond (eqb width 0 && not (eqb (length (unmet_from 0 n (build k n rs).bits rs)) 0)) (refused TooWide 0) (Ok (answer n rs (build k n rs)))) em
 
-  pub too_wide : true ≡ (eqb width 0 && not (eqb live 0)) → no_encoding (Verdict.Refused TooWide 0) ≡ encoded_for n width rs
+  pub too_wide : true ≡ (eqb width 0 && not (eqb live 0)) → refused TooWide 0 ≡ encoded_for n width rs
   too_wide h = by_code true h
 
-  pub wide_enough : (asked : ℕ) → asked ≡ length rs → false ≡ (eqb width 0 && not (eqb live 0)) → ◌≡◌ {A = Encoding} record {
-    verdict = Verdict.Accepted;
+  pub wide_enough : (asked : ℕ) → asked ≡ length rs → false ≡ (eqb width 0 && not (eqb live 0)) → ◌≡◌ {A = Result Encoding Refused} (Ok (record {
     width = wide;
     bits = bits;
     asked = asked;
     unmet = live;
     passes = passes;
     looks = looks;
-  } (encoded_for n width rs)
+  })) (encoded_for n width rs)
   unfolding code
   wide_enough asked k h = rw (d.wide, d.shown, drop-replicate (length code.bits) most_bits 0, d.left, d.took, d.looked, k) (by_code false h)
 
@@ -94,7 +95,7 @@ module _ (t : Listing) (f : fair t ≡ true) where
       c : Code
       c = build (cond (eqb t.head.width 0) most_bits t.head.width) t.head.states (requirements t)
 
-      go : (a : Bool) → cond a (no_encoding (Verdict.Refused TooWide 0)) (answer t.head.states (requirements t) c) ≡ encoded_as t (cond a (uncoded TooWide) (coded c))
+      go : (a : Bool) → cond a (refused TooWide 0) (Ok (answer t.head.states (requirements t) c)) ≡ encoded_as t (cond a (uncoded TooWide) (coded c))
       go true = refl
       go false = refl
 

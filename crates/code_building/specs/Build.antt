@@ -1,16 +1,16 @@
 -- What the functions that build a code promise each other, and what the encoder answers for n states and some requirements.
-use Rattle.std.specs.Prelude.{◌≡◌, cond, not, ◌&&◌, List, [], ◌++◌, ℕ, ◌≤◌, eqb, length, drop}
+use Rattle.std.specs.Prelude.{◌≡◌, cond, not, ◌&&◌, List, [], ◌++◌, ℕ, ◌≤◌, eqb, length, drop, Ok, Result}
 use Rattle.sets.specs.Places.{padded}
 use Rattle.rules.specs.Limits.{most_bits, most_asked}
 use Rattle.rules.specs.Code.{Code, build, unmet_from}
 use Rattle.rules.specs.declared.Requirement.{Requirement}
 use Rattle.rules.specs.declared.Encoding.{Encoding}
-use Rattle.rules.specs.declared.Verdict.{Verdict}
 use Rattle.rules.specs.declared.Refusal.TheVariants.{TooWide}
 use Rattle.move_table.proofs.Ready.{Ready}
 use Rattle.bit_live.specs.Live.{live_in}
 use Rattle.bit_live.proofs.Next.{Within}
-use Rattle.code_encoding.specs.Encode.{no_encoding}
+use Rattle.rules.specs.Refusals.{refused}
+use Rattle.rules.specs.declared.Refused.{Refused}
 
 -- the families of some requirements of n states, and with the pairs no more requirements than a listing can ask
 pub record Drawn (n : ℕ) (fs : List ℕ) : Type 0 where
@@ -43,7 +43,6 @@ Done n most rs bits width live passes looks bits' = DoneAs n (build most n rs) r
 -- the code of n states, for the requirements rs
 abbrev pub answer : ℕ → List Requirement → Code → Encoding
 answer n rs c = record {
-  verdict = Verdict.Accepted;
   width = length c.bits;
   bits = padded most_bits 0 c.bits;
   asked = length rs;
@@ -53,8 +52,8 @@ answer n rs c = record {
 }
 
 -- of that width at most; with width 0 all of them are to be met
-unfoldable pub encoded_for : ℕ → ℕ → List Requirement → Encoding
-unfolding build unmet_from no_encoding
+unfoldable pub encoded_for : ℕ → ℕ → List Requirement → Result Encoding Refused
+unfolding build unmet_from
 encoded_for n width rs =
     let c : Code = build (cond (eqb width 0) most_bits width) n rs in
-    cond (eqb width 0 && not (eqb (length (unmet_from 0 n c.bits rs)) 0)) (no_encoding (Verdict.Refused TooWide 0)) (answer n rs c)
+    cond (eqb width 0 && not (eqb (length (unmet_from 0 n c.bits rs)) 0)) (refused TooWide 0) (Ok (answer n rs c))

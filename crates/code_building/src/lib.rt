@@ -6,6 +6,8 @@ ghost use Rattle.bit_live.specs.Live.{live_in};
 ghost use Rattle.code_encoding.specs.Encode.{encoded};
 ghost use Rattle.code_building.specs.Build.{Begun, Asked, Done, encoded_for};
 
+use rules::{Encoding, Listing, Refusal, Refused};
+
 // What a run of bits came to: how many there are, how many requirements they leave live, and what building them took.
 #[derive(Clone, Copy)]
 struct Coded {
@@ -51,7 +53,7 @@ fn build_bits(n: usize, most: usize, fs: &mut [u64], bits: &mut [u64]) -> Coded
 }
 
 // The code of n states and of the families in fs, of that width at most.
-fn encode_families(n: usize, width: usize, fs: &mut [u64]) -> rules::Encoding
+fn encode_families(n: usize, width: usize, fs: &mut [u64]) -> Result<Encoding, Refused>
     requires { Asked n width fs.old }
     ensures { result ≡ encoded_for n width (live_in n [] fs.old) }
 {
@@ -60,25 +62,24 @@ fn encode_families(n: usize, width: usize, fs: &mut [u64]) -> rules::Encoding
     let most = code_encoding::most_of(width);
     let c = build_bits(n, most, fs, &mut bits);
     if code_encoding::falls_short(width, c.live) {
-        return code_encoding::uncoded_as(rules::Refusal::TooWide);
+        return code_encoding::uncoded_as(Refusal::TooWide);
     }
-    rules::Encoding {
-        verdict: rules::Verdict::Accepted,
+    Ok(Encoding {
         width: c.width,
         bits,
         asked,
         unmet: c.live,
         passes: c.passes,
         looks: c.looks,
-    }
+    })
 }
 
 // The code of any listing; one that is not within 01's limits, as no reader gives, is refused 2.
-pub fn encode(t: rules::Listing) -> rules::Encoding
+pub fn encode(t: Listing) -> Result<Encoding, Refused>
     ensures { result ≡ encoded t }
 {
     if !code_fair::is_fair(t) {
-        return code_encoding::uncoded_as(rules::Refusal::Limit);
+        return code_encoding::uncoded_as(Refusal::Limit);
     }
     let mut fs = [0u64; code_drawing::WORDS];
     let words = code_drawing::draw(t, &mut fs);

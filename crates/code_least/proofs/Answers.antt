@@ -17,7 +17,6 @@ use Rattle.rules.specs.Least.{column, columns_of, bits_for, First, first, none, 
 use Rattle.rules.specs.declared.Requirement.{Requirement}
 use Rattle.rules.specs.declared.Listing.{Listing}
 use Rattle.rules.specs.declared.Encoding.{Encoding}
-use Rattle.rules.specs.declared.Verdict.{Verdict}
 use Rattle.rules.specs.declared.Refusal.TheVariants.{Limit, NoShortCode}
 use Rattle.rules.proofs.Good.{AllGood}
 use Rattle.rules.proofs.Least.{least-code, meets-all}
@@ -29,9 +28,11 @@ use Rattle.code_fair.proofs.Limits.{fair-grants}
 use Rattle.code_fair.proofs.FairListings.{few-requirements, good-requirements}
 use Rattle.code_drawing.specs.Drawing.{all_families}
 use Rattle.code_drawing.proofs.Requirements.{all_are}
-use Rattle.code_encoding.specs.Encode.{no_encoding, encoded_as}
+use Rattle.code_encoding.specs.Encode.{encoded_as}
 use Rattle.code_least.specs.Drawn.{Drawn}
 use Rattle.code_least.specs.Encode.{coded_as, Within, found_as, answer_of, small_encoded, least_encoded}
+use Rattle.rules.specs.Refusals.{refused}
+use Rattle.std.specs.Prelude.{Ok}
 
 -- ---- the columns of a small machine
 
@@ -45,18 +46,17 @@ drop-replicate zero w v = let e : w ≡ w - 0 = omega arith in ap (λ (j : ℕ).
 drop-replicate (suc k) zero v = let e : 0 ≡ 0 - suc k = omega arith in ap (λ (j : ℕ). replicate j v) e
 drop-replicate (suc k) (suc w) v = let e : w - k ≡ suc w - suc k = omega arith in drop-replicate k w v ∙ ap (λ (j : ℕ). replicate j v) e
 
-pub coded-is : (n asked : ℕ) (code bits : List ℕ) → bits ≡ bits_for n code ++ drop (length code) (replicate most_bits 0) → ◌≡◌ {A = Encoding} record {
-  verdict = Verdict.Accepted;
+pub coded-is : (n asked : ℕ) (code bits : List ℕ) → bits ≡ bits_for n code ++ drop (length code) (replicate most_bits 0) → ◌≡◌ {A = Encoding} Ok (record {
   width = length code;
   bits = bits;
   asked = asked;
   unmet = 0;
   passes = 0;
   looks = 0;
-} (coded_as n asked code)
+}) (coded_as n asked code)
 unfolding coded_as
 coded-is n asked code bits e =
-    ap (λ (b : List ℕ). record { verdict = Verdict.Accepted; width = length code; bits = b; asked = asked; unmet = 0; passes = 0; looks = 0 })
+    ap (λ (b : List ℕ). Ok (record { width = length code; bits = b; asked = asked; unmet = 0; passes = 0; looks = 0 }))
     (e ∙ ap (λ (l : List ℕ). bits_for n code ++ l) (drop-replicate (length code) most_bits 0) ∙ ap (λ (k : ℕ). bits_for n code ++ replicate (most_bits - k) 0) (sym (length-map code (column n))))
 
 -- ---- what a search told
@@ -69,7 +69,7 @@ pub width-as : (n asked : ℕ) (f : Found) (w : ℕ) (l : List ℕ) → f ≡ Fo
 unfolding found_as
 width-as n asked f w l e = sym (ap (λ (g : Found). found_as n asked g l) e)
 
-pub nothing-as : (n asked : ℕ) (f : Found) (l : List ℕ) → f ≡ Found.Nothing → no_encoding (Verdict.Refused NoShortCode 0) ≡ found_as n asked f l
+pub nothing-as : (n asked : ℕ) (f : Found) (l : List ℕ) → f ≡ Found.Nothing → refused NoShortCode 0 ≡ found_as n asked f l
 unfolding found_as
 nothing-as n asked f l e = sym (ap (λ (g : Found). found_as n asked g l) e)
 
@@ -97,16 +97,16 @@ module _ (n : ℕ) (rs : List Requirement) (came : List ℕ) (five : length came
 
 module _ (n : ℕ) (rs : List Requirement) where
   small_by : (a b : Bool) → leb n most_small ≡ a → leb (length rs) most_small_asked ≡ b
-      → cond a (cond b (answer_of n (length rs) (least n rs)) (no_encoding (Verdict.Refused Limit 0))) (no_encoding (Verdict.Refused Limit 0)) ≡ small_encoded n rs
+      → cond a (cond b (answer_of n (length rs) (least n rs)) (refused Limit 0)) (refused Limit 0) ≡ small_encoded n rs
   unfolding small_encoded
   small_by a b e f =
       sym
-      (ap₂ (λ (x y : Bool). cond x (cond y (answer_of n (length rs) (least n rs)) (no_encoding (Verdict.Refused Limit 0))) (no_encoding (Verdict.Refused Limit 0))) e f)
+      (ap₂ (λ (x y : Bool). cond x (cond y (answer_of n (length rs) (least n rs)) (refused Limit 0)) (refused Limit 0)) e f)
 
-  pub many-states : most_small < n → no_encoding (Verdict.Refused Limit 0) ≡ small_encoded n rs
+  pub many-states : most_small < n → refused Limit 0 ≡ small_encoded n rs
   many-states h = small_by false (leb (length rs) most_small_asked) (lt-leb n most_small h) refl
 
-  pub many-asked : n ≤ most_small → (asked : ℕ) → asked ≡ length rs → most_small_asked < asked → no_encoding (Verdict.Refused Limit 0) ≡ small_encoded n rs
+  pub many-asked : n ≤ most_small → (asked : ℕ) → asked ≡ length rs → most_small_asked < asked → refused Limit 0 ≡ small_encoded n rs
   many-asked h asked e l = small_by true false (le-leb n most_small h) (lt-leb (length rs) most_small_asked (omega arith))
 
   pub small-answer : n ≤ most_small → (asked : ℕ) → asked ≡ length rs → asked ≤ most_small_asked → answer_of n asked (least n rs) ≡ small_encoded n rs
@@ -120,7 +120,7 @@ module _ (t : Listing) where
   by_first (first code) e =
       let none-unmet = meets-all t.head.states (requirements t) code (least-code t.head.states (requirements t) code e).has in
       let w : length code ≡ length (bits_for t.head.states code) = sym (length-map code (column t.head.states)) in
-      ap₂ (λ (w u : ℕ). record { verdict = Verdict.Accepted; width = w; bits = padded most_bits 0 (bits_for t.head.states code); asked = length (requirements t); unmet = u; passes = 0; looks = 0 })
+      ap₂ (λ (w u : ℕ). Ok (record { width = w; bits = padded most_bits 0 (bits_for t.head.states code); asked = length (requirements t); unmet = u; passes = 0; looks = 0 }))
       w (sym (ap (λ (l : List ℕ). length l) none-unmet))
   by_first none e = refl
 
@@ -131,7 +131,7 @@ module _ (t : Listing) where
       f : First
       f = least t.head.states (requirements t)
 
-      go : (a b : Bool) → cond a (cond b (answer_of t.head.states (length (requirements t)) f) (no_encoding (Verdict.Refused Limit 0))) (no_encoding (Verdict.Refused Limit 0))
+      go : (a b : Bool) → cond a (cond b (answer_of t.head.states (length (requirements t)) f) (refused Limit 0)) (refused Limit 0)
           ≡ encoded_as t (cond (a && b) (coded_by t.head.states f) (uncoded Limit))
       go true true = by_first f refl
       go true false = refl
@@ -147,9 +147,9 @@ module _ (t : Listing) where
         good = subst (AllGood t.head.states) (sym are) (good-requirements t f);
       }
 
-  pub least-is : (x : Bool) → fair t ≡ x → cond x (encoded_as t (least_coding t)) (no_encoding (Verdict.Refused Limit 0)) ≡ least_encoded t
+  pub least-is : (x : Bool) → fair t ≡ x → cond x (encoded_as t (least_coding t)) (refused Limit 0) ≡ least_encoded t
   unfolding least_encoded
-  least-is x e = sym (ap (λ (b : Bool). cond b (encoded_as t (least_coding t)) (no_encoding (Verdict.Refused Limit 0))) e)
+  least-is x e = sym (ap (λ (b : Bool). cond b (encoded_as t (least_coding t)) (refused Limit 0)) e)
 
   -- drawn up as families, it is answered
   pub small-families : fair t ≡ true → (fs : List ℕ) → fs ≡ all_families t → small_encoded t.head.states (requirements_in fs) ≡ least_encoded t

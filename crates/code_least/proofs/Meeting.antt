@@ -2,7 +2,6 @@
 use mathlib.Core.Path.{◌≡◌, refl, sym, ap, ap₂, ◌∙◌}
 use mathlib.Core.Logic.{⊎_elim}
 use mathlib.Core.Bool.{Bool, true, false, ◌||◌, not}
-use mathlib.Core.List.Memᴰ
 use mathlib.Core.List.{List, [], ◌∷◌, ◌++◌, Memᴰ}
 use Prim.Native.Nat.{ℕ, zero, suc, ◌+◌, ◌-◌, ◌*◌, ◌/◌, ◌%◌, ◌^◌, ◌≤◌, ◌<◌, min}
 use native.Mathlib.Omega.{arith}
@@ -30,6 +29,7 @@ use Rattle.code_judging.proofs.Wide.{unmet-wide}
 use Rattle.code_search.specs.Search.{takes_all, told_width}
 use Rattle.code_least.specs.Table.{mask_from, masks}
 use Rattle.code_least.proofs.Filling.{column-at}
+use mathlib.Core.List.Memᴰ
 
 -- ---- masks, digit by digit
 

@@ -1,37 +1,48 @@
 -- What was read, with its rows looked at: a refused listing is blank, and one that is not refused stands.
-use mathlib.Core.Path.{◌≡◌, refl, ap, ◌∙◌}
+use mathlib.Core.Path.{◌≡◌, refl, sym, ap, ◌∙◌}
 use mathlib.Core.Bool.{true, false, true≢false, false≢true}
-use Rattle.rules.specs.Listing.{blank, rows_of, refused, or_else, conflict, judged, checked}
+use Rattle.std.specs.Prelude.{Ok, Err}
+use Rattle.std.specs.Result.{is_err}
+use Rattle.rules.specs.Refusals.{Verdict}
+use Rattle.rules.specs.Listing.{blank, rows_of, or_else, conflict, judged, checked, Reading}
 use Rattle.rules.specs.declared.Listing.{Listing}
-use Rattle.rules.specs.declared.Reading.{Reading}
-use Rattle.rules.specs.declared.Verdict.{Verdict}
-use Rattle.read_answers.specs.Lent.{reading_with}
-use Rattle.read_answers.specs.Refused.{is_refused}
+use Rattle.read_answers.specs.Lent.{lent}
+use Rattle.rules.specs.declared.Refused.{Refused}
 
 -- the reader's refusal comes before the clash
-judged-checked : (r : Reading) {v : Verdict} → v ≡ or_else r.verdict (conflict (rows_of r.listing)) → judged v r.listing ≡ checked r
-unfolding refused conflict
-judged-checked r e = ap (λ (x : Verdict). judged x r.listing) e ∙ go r.verdict
-  where
-    go : (u : Verdict)
-        → judged (or_else u (conflict (rows_of r.listing))) r.listing
-        ≡ elim u [ Verdict.Accepted ↦ judged (conflict (rows_of r.listing)) r.listing | Verdict.Refused n k ↦ refused n k ]
-    go Verdict.Accepted = refl
-    go (Verdict.Refused n k) = refl
+judged-checked : (said : Verdict) (t : Listing) → judged (or_else said (conflict (rows_of t))) t ≡ checked (judged said t)
+judged-checked (Ok tt) t = refl
+judged-checked (Err why) t = refl
 
-blank-judged : (v : Verdict) (t b : Listing) → is_refused v ≡ true → b ≡ blank → reading_with v b ≡ judged v t
-unfolding is_refused refused
-blank-judged Verdict.Accepted t b h e = absurd (false≢true h)
-blank-judged (Verdict.Refused n k) t b h e = λ i. record { verdict = Verdict.Refused n k; listing = e i }
+blank-judged : (v : Verdict) (t : Listing) → is_err v ≡ true → (v, blank) ≡ lent (judged v t)
+unfolding lent
+blank-judged (Ok tt) t h = absurd (false≢true h)
+blank-judged (Err why) t h = refl
 
-kept-judged : (v : Verdict) (t : Listing) → is_refused v ≡ false → reading_with v t ≡ judged v t
-unfolding is_refused refused
-kept-judged Verdict.Accepted t h = refl
-kept-judged (Verdict.Refused n k) t h = absurd (true≢false h)
+kept-judged : (v : Verdict) (t : Listing) → is_err v ≡ false → (v, t) ≡ lent (judged v t)
+unfolding lent
+kept-judged (Ok tt) t h = refl
+kept-judged (Err why) t h = absurd (true≢false h)
 
-module _ (r : Reading) {v : Verdict} (e : v ≡ or_else r.verdict (conflict (rows_of r.listing))) where
-  pub settled-blank : {b : Listing} → is_refused v ≡ true → b ≡ blank → reading_with v b ≡ checked r
-  settled-blank {b} h n = blank-judged v r.listing b h n ∙ judged-checked r e
+module _ (said : Verdict) (t : Listing) {v : Verdict} (e : v ≡ or_else said (conflict (rows_of t))) where
+  same : lent (judged v t) ≡ lent (checked (judged said t))
+  same = ap (λ (u : Verdict). lent (judged u t)) e ∙ ap lent (judged-checked said t)
 
-  pub settled-kept : is_refused v ≡ false → reading_with v r.listing ≡ checked r
-  settled-kept h = kept-judged v r.listing h ∙ judged-checked r e
+  pub settled-blank : {b : Listing} → is_err v ≡ true → b ≡ blank → (v, b) ≡ lent (checked (judged said t))
+  settled-blank h n = ap (λ (u : Listing). (v, u)) n ∙ blank-judged v t h ∙ same
+
+  pub settled-kept : is_err v ≡ false → (v, t) ≡ lent (checked (judged said t))
+  settled-kept h = kept-judged v t h ∙ same
+
+-- ---- of a reading as one value
+
+module _ {r : Reading} where
+  pub refused-checked : {why : Refused} → r ≡ Err why → Err why ≡ checked r
+  refused-checked e = sym (ap checked e)
+
+  module _ {t : Listing} (e : r ≡ Ok t) where
+    pub clash-checked : {why : Refused} → Err why ≡ conflict (rows_of t) → Err why ≡ checked r
+    clash-checked h = sym (ap checked e ∙ ap (λ (v : Verdict). judged v t) (sym h))
+
+    pub clear-checked : ◌≡◌ {A = Verdict} (Ok tt) (conflict (rows_of t)) → Ok t ≡ checked r
+    clear-checked h = sym (ap checked e ∙ ap (λ (v : Verdict). judged v t) (sym h))

@@ -1,7 +1,10 @@
--- A reading in two parts: the verdict that a reader answers, and the listing that was lent to it.
+-- A reading in two parts: what a reader answers, and the listing that was lent to it, which is blank where it is refused.
+use Rattle.std.specs.Prelude.{Ok, Err}
+use Rattle.rules.specs.Refusals.{Verdict}
+use Rattle.rules.specs.Listing.{Reading, blank}
 use Rattle.rules.specs.declared.Listing.{Listing}
-use Rattle.rules.specs.declared.Reading.{Reading}
-use Rattle.rules.specs.declared.Verdict.{Verdict}
 
-abbrev pub reading_with : Verdict → Listing → Reading
-reading_with v t = record { verdict = v; listing = t }
+unfoldable pub lent : Reading → Verdict × Listing
+unfolding blank
+lent (Ok t) = (Ok tt, t)
+lent (Err why) = (Err why, blank)

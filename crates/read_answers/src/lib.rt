@@ -1,12 +1,11 @@
-// What the reader of a whole text answers where it is refused, which of two verdicts comes first, and what was read when its rows have been looked at.
+// The listing that says nothing, which of two verdicts comes first, and what was read when its rows have been looked at.
 #![tactic(auto)]
 
 ghost use Rattle.std.specs.Prelude.{◌≡◌};
-ghost use Rattle.rules.specs.Listing.{blank, refused, or_else, checked};
-ghost use Rattle.read_answers.specs.Lent.{reading_with};
-ghost use Rattle.read_answers.specs.Refused.{is_refused};
+ghost use Rattle.rules.specs.Listing.{blank, or_else, checked, judged};
+ghost use Rattle.read_answers.specs.Lent.{lent};
 
-use rules::{Head, Listing, Pattern, Reading, Refusal, Requirement, Row, Verdict};
+use rules::{Head, Listing, Pattern, Refused, Requirement, Row};
 
 // The listing that says nothing.
 pub fn blank_listing() -> Listing
@@ -46,45 +45,23 @@ pub fn blank_listing() -> Listing
     }
 }
 
-// A refusal at a line, with no listing.
-pub fn refuse(r: Refusal, line: usize) -> Reading
-    ensures { result ≡ refused r line }
-{
-    Reading {
-        verdict: Verdict::Refused(r, line),
-        listing: blank_listing(),
-    }
-}
-
 // The first of two verdicts that refuses.
-pub fn or_else(first: Verdict, second: Verdict) -> Verdict
+pub fn or_else(first: Result<(), Refused>, second: Result<(), Refused>) -> Result<(), Refused>
     ensures { result ≡ or_else first second }
 {
-    match first {
-        Verdict::Accepted => second,
-        Verdict::Refused(r, line) => Verdict::Refused(r, line),
-    }
-}
-
-// Whether a verdict refuses.
-fn is_refused(v: Verdict) -> bool
-    ensures { result ≡ is_refused v }
-{
-    match v {
-        Verdict::Accepted => false,
-        Verdict::Refused(_, _) => true,
-    }
+    first?;
+    second
 }
 
 // The verdict on what was read, unless two of its rows clash. Where it is refused there is no listing: it is taken away here and nowhere before, because each
 // place that did would hold a listing on the stack.
-pub fn settle_lent(said: Verdict, t: &mut Listing) -> Verdict
-    ensures { reading_with result t.new ≡ checked (reading_with said t.old) }
+pub fn settle_lent(said: Result<(), Refused>, t: &mut Listing) -> Result<(), Refused>
+    ensures { (result, t.new) ≡ lent (checked (judged said t.old)) }
 {
     let table = t.table;
     let clash = read_conflict::first_clash(t.rows, table);
     let verdict = or_else(said, clash);
-    if is_refused(verdict) {
+    if verdict.is_err() {
         let none = blank_listing();
         *t = none;
     }
@@ -92,13 +69,10 @@ pub fn settle_lent(said: Verdict, t: &mut Listing) -> Verdict
 }
 
 // The same of a reading as one value.
-pub fn settle(r: Reading) -> Reading
-    ensures { result ≡ checked r }
+pub fn settle(read: Result<Listing, Refused>) -> Result<Listing, Refused>
+    ensures { result ≡ checked read }
 {
-    let mut t = r.listing;
-    let verdict = settle_lent(r.verdict, &mut t);
-    Reading {
-        verdict,
-        listing: t,
-    }
+    let t = read?;
+    read_conflict::first_clash(t.rows, t.table)?;
+    Ok(t)
 }

@@ -9,8 +9,9 @@ use Rattle.rules.specs.Listing.{no_row, blank, meets, clash, clash_with, or_else
 use Rattle.rules.specs.declared.Listing.{Listing}
 use Rattle.rules.specs.declared.Row.{Row}
 use Rattle.rules.specs.declared.Refusal.TheVariants.{Conflict}
-use Rattle.rules.specs.declared.Verdict.{Verdict}
+use Rattle.rules.specs.Refusals.{Verdict, refused}
 use Rattle.rules.proofs.Rows.{row_here, row-none}
+use Rattle.std.specs.Prelude.{Ok}
 
 -- ---- two rows
 
@@ -22,11 +23,11 @@ clash-each a b e g h i = rw (e, g, h, i)
 
 -- ---- one row and those behind it
 
-with-cons : (a b : Row) (bs : List Row) {t : Bool} → clash a b ≡ t → clash_with a (b ∷ bs) ≡ cond t (Verdict.Refused Conflict b.line) (clash_with a bs)
+with-cons : (a b : Row) (bs : List Row) {t : Bool} → clash a b ≡ t → clash_with a (b ∷ bs) ≡ cond t (refused Conflict b.line) (clash_with a bs)
 unfolding clash_with
-with-cons a b bs e = go (clash a b) ∙ ap (λ (t : Bool). cond t (Verdict.Refused Conflict b.line) (clash_with a bs)) e
+with-cons a b bs e = go (clash a b) ∙ ap (λ (t : Bool). cond t (refused Conflict b.line) (clash_with a bs)) e
   where
-    go : (t : Bool) → elim t [ true ↦ Verdict.Refused Conflict b.line | false ↦ clash_with a bs ] ≡ cond t (Verdict.Refused Conflict b.line) (clash_with a bs)
+    go : (t : Bool) → elim t [ true ↦ refused Conflict b.line | false ↦ clash_with a bs ] ≡ cond t (refused Conflict b.line) (clash_with a bs)
     go true = refl
     go false = refl
 
@@ -37,10 +38,10 @@ module _ (rows : ℕ) (table : List Row) (n : ℕ) (all : length (take rows tabl
   listed = record { head = blank.head; rows = rows; table = table; dichotomies = 0; asked = []; said = []; given = 0 }
 
   pub with-here : (a : Row) (j : ℕ) {b : Bool} → j < n → clash a (get_or table j no_row) ≡ b
-      → clash_with a (drop j (take rows table)) ≡ cond b (Verdict.Refused Conflict (get_or table j no_row).line) (clash_with a (drop (j + 1) (take rows table)))
+      → clash_with a (drop j (take rows table)) ≡ cond b (refused Conflict (get_or table j no_row).line) (clash_with a (drop (j + 1) (take rows table)))
   with-here a j h e = ap (clash_with a) (row_here listed n all j h) ∙ with-cons a (get_or table j no_row) (drop (j + 1) (take rows table)) e
 
-  pub with_none : (a : Row) (j : ℕ) → n ≤ j → clash_with a (drop j (take rows table)) ≡ Verdict.Accepted
+  pub with_none : (a : Row) (j : ℕ) → n ≤ j → clash_with a (drop j (take rows table)) ≡ Ok tt
   unfolding clash_with
   with_none a j h = rw (row-none listed n all j h)
 
@@ -49,6 +50,6 @@ module _ (rows : ℕ) (table : List Row) (n : ℕ) (all : length (take rows tabl
   unfolding conflict
   conflict-here i h e = rw (row_here listed n all i h, e)
 
-  pub conflict-none : (i : ℕ) → n ≤ i → conflict (drop i (take rows table)) ≡ Verdict.Accepted
+  pub conflict-none : (i : ℕ) → n ≤ i → conflict (drop i (take rows table)) ≡ Ok tt
   unfolding conflict
   conflict-none i h = rw (row-none listed n all i h)

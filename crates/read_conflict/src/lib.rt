@@ -4,7 +4,7 @@
 ghost use Rattle.std.specs.Prelude.{◌≡◌, take};
 ghost use Rattle.rules.specs.Listing.{clash, conflict};
 
-use rules::{Refusal, Row, Verdict};
+use rules::{Refusal, Refused, Row};
 
 // Whether two rows share an input vector and a state and name different next states.
 fn clashes(a: Row, b: Row) -> bool
@@ -23,11 +23,11 @@ fn clashes(a: Row, b: Row) -> bool
 }
 
 // The first pair of rows that clash, by the earlier row and then the later one: refused at the later row's line.
-pub fn first_clash(rows: usize, table: [Row; rules::MOST_ROWS]) -> Verdict
+pub fn first_clash(rows: usize, table: [Row; rules::MOST_ROWS]) -> Result<(), Refused>
     ensures { result ≡ conflict (take rows table) }
 {
     let n = sets::least(rows, rules::MOST_ROWS);
-    let mut found = Verdict::Accepted;
+    let mut found: Result<(), Refused> = Ok(());
     let mut i: usize = 0;
     'pairs: while i < n {
         let a = table[i];
@@ -35,7 +35,7 @@ pub fn first_clash(rows: usize, table: [Row; rules::MOST_ROWS]) -> Verdict
         while j < n {
             let b = table[j];
             if clashes(a, b) {
-                found = Verdict::Refused(Refusal::Conflict, b.line);
+                found = Err(Refusal::Conflict.at(b.line));
                 break 'pairs;
             }
             j += 1;

@@ -306,7 +306,6 @@ judged (Ok _) t = Ok t
 judged (Err why) t = Err why
 
 abbrev pub checked : Reading → Reading
-unfolding conflict
 checked (Ok t) = judged (conflict (rows_of t)) t
 checked (Err why) = Err why
 

@@ -1,5 +1,6 @@
 -- `read_conflict::first_clash` meets its contract: what is still to be scanned decides as all pairs do.
-use mathlib.Core.Path.{sym, ◌∙◌}
+use Rattle.std.specs.Prelude.{Err}
+use mathlib.Core.Path.{sym, ap, ◌∙◌}
 use native.Mathlib.Omega.{arith}
 use Rattle.read_conflict.proofs.Scan.{with-here, with_none, conflict-here, conflict-none}
 use Rattle.read_conflict.proofs.first_clash.Goals as goal
@@ -31,4 +32,4 @@ returns-then-clashes c =
     let p = c.pairs in
     let a = c.args in
     let h = sym l.invariant.3 ∙ with-here a.rows a.table _ p.invariant.0 _ l.j (omega arith) (sym c.clashes.ensures ∙ c.if-clashes.true) in
-    sym (conflict-here a.rows a.table _ p.invariant.0 p.i (omega arith) h) ∙ p.invariant.4
+    ap Err c.at.ensures ∙ sym (conflict-here a.rows a.table _ p.invariant.0 p.i (omega arith) h) ∙ p.invariant.4
