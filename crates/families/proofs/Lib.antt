@@ -7,3 +7,4 @@ pub mod Left
 pub mod Words
 pub mod Runs
 pub mod Walking
+pub mod Chunks

@@ -1,5 +1,5 @@
 -- The filled table of a list of families is the list's filled table over all their requirements.
-use Rattle.std.proofs.Common.{◌≡◌, ℕ, ◌+◌, ◌-◌, ◌%◌, ◌^◌, ◌<◌, ◌≤◌, true, List, [], ◌∷◌, ◌++◌, length, get_or, drop, sym, refl, ap, ◌∙◌, ap₂, lt_of_lt_of_le, arith, ext_get_or, pow_mono}
+use Rattle.std.proofs.Common.{◌≡◌, ℕ, ◌+◌, ◌%◌, ◌^◌, ◌<◌, ◌≤◌, true, List, [], ◌∷◌, ◌++◌, length, get_or, sym, refl, ap, ◌∙◌, ap₂, lt_of_lt_of_le, arith, ext_get_or, pow_mono}
 use lib.Bits.{bit_xor}
 use Rattle.sets.specs.Sets.{flip as turn}
 use Rattle.rules.specs.Requirements.{met_count}
@@ -15,7 +15,7 @@ use Rattle.move_halves.proofs.Modulo.{cancel, sums, both}
 use Rattle.move_halves.proofs.Levels.{length-halved}
 use Rattle.move_halves.proofs.Meets.{spare, family-met}
 use Rattle.move_halves.proofs.Putting.{half1, half0, put1, put0, put1-on, put0-on}
-use Rattle.families.proofs.Walk.{Words, words-three, family-left, short-left}
+use Rattle.families.proofs.Walk.{Words, words-three}
 use Rattle.move_families.proofs.Lists.{shared-level, Fits, raised-fits}
 use Rattle.move_families.proofs.Whole.{met-append, widen, all-good, halved-fits, same-level}
 use Rattle.move_families.specs.Filled.{family_filled, filled_all}
@@ -135,20 +135,16 @@ filled-families fs hw b hb t fit =
 
 -- ---- the loop: what is left of the list is still to be put on
 
-filled-short : (fs : List ℕ) (b : ℕ) (t : List ℕ) → length fs ≤ 2 → filled_all fs b t ≡ t
+pub filled-end : (l : List ℕ) (b : ℕ) (t : List ℕ) → length l ≤ 2 → filled_all l b t ≡ t
 unfolding filled_all
-filled-short [] b t h = refl
-filled-short (all ∷ []) b t h = refl
-filled-short (all ∷ (flip ∷ [])) b t h = refl
-filled-short (all ∷ (flip ∷ (out ∷ fs))) b t h = absurd (omega arith)
+filled-end [] b t h = refl
+filled-end (all ∷ []) b t h = refl
+filled-end (all ∷ (flip ∷ [])) b t h = refl
+filled-end (all ∷ (flip ∷ (out ∷ fs))) b t h = absurd (omega arith)
 
-module _ (fs : List ℕ) (i b : ℕ) (t : List ℕ) where
-  pub filled_more : 2 < length fs - i → filled_all (drop i fs) b t ≡ filled_all (drop (i + 3) fs) b (family_filled (get_or fs i 0) (get_or fs (i + 1) 0) (get_or fs (i + 2) 0) b t)
-  unfolding filled_all
-  filled_more h = ap (λ (l : List ℕ). filled_all l b t) (family-left fs i h)
-
-  pub filled-end : length fs - i ≤ 2 → filled_all (drop i fs) b t ≡ t
-  filled-end h = filled-short (drop i fs) b t (short-left fs i h)
+pub filled_more : (l : List ℕ) (all flip out : ℕ) (rest : List ℕ) (b : ℕ) (t : List ℕ) → l ≡ all ∷ (flip ∷ (out ∷ rest)) → filled_all l b t ≡ filled_all rest b (family_filled all flip out b t)
+unfolding filled_all
+filled_more l all flip out rest b t e = ap (λ (k : List ℕ). filled_all k b t) e
 
 -- one family, of what code has on the way
 pub by-family : (all flip out b x o w v : ℕ) (t u t' : List ℕ) → x ≡ side all flip b → o ≡ without out all → w ≡ worth out (ones o b) → v ≡ worth out (zeros o b)

@@ -1,11 +1,15 @@
 -- A run of families by its marks: which digits they have, and that the visits of the marked ones, the lowest first, are the visits of all.
-use Rattle.std.proofs.Common.{◌≡◌, ℕ, zero, suc, ◌+◌, ◌-◌, ◌*◌, ◌/◌, ◌%◌, ◌^◌, ◌<◌, ◌≤◌, Bool, true, false, cond, eqb, List, length, get_or, drop, sym, refl, ap, ◌∙◌, subst, ap₂, lt_of_lt_of_le, add-zero, pow-suc, arith, pow_mono, eq-eqb, ne_eqb}
+use Rattle.std.proofs.Common.{◌≡◌, ℕ, zero, suc, ◌+◌, ◌-◌, ◌*◌, ◌/◌, ◌%◌, ◌^◌, ◌<◌, ◌≤◌, Bool, true, false, cond, eqb, List, [], ◌∷◌, ◌++◌, length, get_or, drop, sym, refl, ap, ◌∙◌, subst, ap₂, lt_of_lt_of_le, add-zero, pow-suc, arith, pow_mono, eq-eqb, ne_eqb}
 use native.Mathlib.Decide.{dec_lt, ℕ_discrete}
 use lib.Count.{count_trailing_zeros}
 use Rattle.sets.specs.Sets.{has, flip, size, without_lowest}
 use Rattle.sets.proofs.Members.{has-zero, has-suc, has-none, has-high, has-flip, has-flip-other}
 use Rattle.sets.proofs.LowestMember.{lowest-at, lowest-least, without_at, without-lt, without_fewer}
+use Rattle.std.specs.Simd.{first_chunks}
+use Rattle.std.proofs.lemmas.List.{get_or_append_left, get_or_push, length_push}
 use Rattle.families.proofs.Walk.{short-left}
+use Rattle.families.proofs.Chunks.{chunks-length, chunk-three}
+use Rattle.move_halves.specs.Halves.{near_at, swayed, looks_of}
 use Rattle.move_halves.proofs.Moving.{move-passed}
 use Rattle.move_families.specs.Swayed.{swayed_all, looks_all}
 use Rattle.move_families.specs.Marks.{near_of, swayed_of, looks_at, marks_from, visited_from, looks_from}
@@ -48,34 +52,19 @@ module _ (fs : List ℕ) (b s : ℕ) where
       ∙ marks-digit c (suc k) i (omega arith)
       ∙ ap (λ (j : ℕ). cond (near_of fs b s j) 1 0) f
 
-  -- none yet
-  pub marks-none : (c : ℕ) → 0 ≡ marks_from (c - c) c fs b s
-  unfolding marks_from
-  marks-none c = let e : 0 ≡ c - c = omega arith in ap (λ (n : ℕ). marks_from n c fs b s) e
-
   -- with one more to come there is room for a digit
-  pub marks-room : (c k word : ℕ) → c ≤ 64 → 0 < k → word ≡ marks_from (c - k) k fs b s → word < 2 ^ 63
+  marks-room : (c k word : ℕ) → c ≤ 64 → 0 < k → word ≡ marks_from (c - k) k fs b s → word < 2 ^ 63
   marks-room c k word h l e =
       let m : c - k ≤ 63 = omega arith in
       subst (λ (x : ℕ). x < 2 ^ 63) (sym e) (lt_of_lt_of_le (marks-lt (c - k) k) (pow_mono m))
 
-  -- a turn of the loop that makes them, from the last family to the first
-  pub marks-turn : (c k word one : ℕ) → 0 < k → k ≤ c → word ≡ marks_from (c - k) k fs b s → one ≡ cond (near_of fs b s (k - 1)) 1 0
-      → 2 * word + one ≡ marks_from (c - (k - 1)) (k - 1) fs b s
+  -- one digit more in front
+  marks-turn : (c k word one : ℕ) → suc k ≤ c → word ≡ marks_from (c - suc k) (suc k) fs b s → one ≡ cond (near_of fs b s k) 1 0 → 2 * word + one ≡ marks_from (c - k) k fs b s
   unfolding marks_from
-  marks-turn c k word one h l ew eo =
-      let e : suc (c - k) ≡ c - (k - 1) = omega arith in
-      let f : k ≡ suc (k - 1) = omega arith in
-      let g : word ≡ marks_from (c - k) (suc (k - 1)) fs b s = ew ∙ ap (λ (j : ℕ). marks_from (c - k) j fs b s) f in
-      let x : 2 * word + one ≡ marks_from (suc (c - k)) (k - 1) fs b s = omega arith in
-      x ∙ ap (λ (n : ℕ). marks_from n (k - 1) fs b s) e
-
-  -- all of them
-  pub marks-done : (c k word : ℕ) → k ≤ 0 → word ≡ marks_from (c - k) k fs b s → word ≡ marks_from c 0 fs b s
-  marks-done c k word h e =
-      let z : k ≡ 0 = omega arith in
-      let n : c - 0 ≡ c = omega arith in
-      e ∙ ap (λ (j : ℕ). marks_from (c - j) j fs b s) z ∙ ap (λ (j : ℕ). marks_from j 0 fs b s) n
+  marks-turn c k word one l ew eo =
+      let e : suc (c - suc k) ≡ c - k = omega arith in
+      let x : 2 * word + one ≡ marks_from (suc (c - suc k)) k fs b s = omega arith in
+      x ∙ ap (λ (n : ℕ). marks_from n k fs b s) e
 
   -- ---- the visits
 
@@ -156,6 +145,66 @@ module _ (fs : List ℕ) (b s : ℕ) where
           let x : eqb (has m j) 1 ≡ false = ne_eqb (has m j) 1 (λ d. omega arith) in
           let f = move-passed (get_or fs (3 * j) 0) (get_or fs (3 * j + 1) 0) (get_or fs (3 * j + 2) 0) b s t n in
           rw x (omega (arith, (r t).0, more, f.0), (r t).1 ∙ ap (swayed_all (drop (3 * suc j) fs) b s) (sym f.1) ∙ sym moved)
+
+-- ---- the loop that makes the marks, from the last family to the first: those of the families behind the rest are made
+
+pub record Marking (fs : List ℕ) (b s : ℕ) (rest : List (List ℕ)) (word : ℕ) : Type 0 where
+  pub marks : word ≡ marks_from (length fs / 3 - length rest) (length rest) fs b s
+  pub few : length rest ≤ length fs / 3
+  pub same : (j : ℕ) → j < length rest → get_or rest j [] ≡ get_or (first_chunks 3 (length fs / 3) fs) j []
+
+module _ (fs : List ℕ) (b s : ℕ) where
+  -- family k, read as a chunk
+  near_chunk : (k : ℕ) (x : List ℕ) → k < length fs / 3 → x ≡ get_or (first_chunks 3 (length fs / 3) fs) k [] → near_at (get_or x 0 0) (get_or x 1 0) (get_or x 2 0) b s ≡ near_of fs b s k
+  near_chunk k x h e =
+      let w = chunk-three fs (first_chunks 3 (length fs / 3) fs) refl (chunks-length (length fs / 3) fs) k (omega (arith, chunks-length (length fs / 3) fs)) in
+      rw (e, w.0, w.1, w.2) refl
+
+  pub marking-none : (rest : List (List ℕ)) → rest ≡ first_chunks 3 (length fs / 3) fs → Marking fs b s rest 0
+  unfolding marks_from
+  marking-none rest e =
+      let l : length rest ≡ length fs / 3 = ap length e ∙ chunks-length (length fs / 3) fs in
+      let z : 0 ≡ length fs / 3 - length rest = omega (arith, l) in
+      record {
+        marks = ap (λ (n : ℕ). marks_from n (length rest) fs b s) z;
+        few = omega (arith, l);
+        same = λ j h. ap (λ (l : List (List ℕ)). get_or l j []) e;
+      }
+
+  module _ (rest rest' : List (List ℕ)) (x : List ℕ) (word : ℕ) (e : rest ≡ rest' ++ (x ∷ [])) (left : Marking fs b s rest word) where
+    longer : length rest ≡ suc (length rest')
+    longer = omega (arith, ap length e, length_push rest' x)
+
+    -- there is room for one digit more
+    pub marking-room : length fs ≤ 192 → word < 2 ^ 63
+    marking-room h = marks-room fs b s (length fs / 3) (length rest) word (omega arith) (omega (arith, longer)) left.marks
+
+    pub marking-turn : (one : ℕ) → one ≡ cond (near_at (get_or x 0 0) (get_or x 1 0) (get_or x 2 0) b s) 1 0 → Marking fs b s rest' (2 * word + one)
+    marking-turn one f =
+        let few : suc (length rest') ≤ length fs / 3 = omega (arith, longer, left.few) in
+        let item : x ≡ get_or (first_chunks 3 (length fs / 3) fs) (length rest') [] =
+        sym (get_or_push rest' x [] (length rest') refl) ∙ ap (λ (l : List (List ℕ)). get_or l (length rest') []) (sym e) ∙ left.same (length rest') (omega (arith, longer)) in
+        record {
+          marks =
+              marks-turn fs b s (length fs / 3) (length rest') word one few (left.marks ∙ ap (λ (k : ℕ). marks_from (length fs / 3 - k) k fs b s) longer)
+              (f ∙ ap (λ (u : Bool). cond u 1 0) (near_chunk (length rest') x (omega arith) item));
+          few = omega arith;
+          same = λ j h. sym (get_or_append_left rest' (x ∷ []) [] j h) ∙ ap (λ (l : List (List ℕ)). get_or l j []) (sym e) ∙ left.same j (omega (arith, longer));
+        }
+
+  -- the end
+  pub marking-done : (rest : List (List ℕ)) (word : ℕ) → length rest ≡ 0 → Marking fs b s rest word → word ≡ marks_from (length fs / 3) 0 fs b s
+  marking-done rest word z left =
+      let n : length fs / 3 - 0 ≡ length fs / 3 = omega arith in
+      left.marks ∙ ap (λ (k : ℕ). marks_from (length fs / 3 - k) k fs b s) z ∙ ap (λ (k : ℕ). marks_from k 0 fs b s) n
+
+-- the move for family k, read as a chunk
+pub moved-chunk : (fs : List ℕ) (b s : ℕ) (families : List (List ℕ)) → families ≡ first_chunks 3 (length fs / 3) fs → length families ≡ length fs / 3 → (k : ℕ) → k < length families
+    → (t t' : List ℕ) (one : ℕ) → let x = get_or families k [] in (one ≡ looks_of (get_or x 0 0) (get_or x 1 0) (get_or x 2 0) b s) × (t' ≡ swayed (get_or x 0 0) (get_or x 1 0) (get_or x 2 0) b s t)
+    → (one ≡ looks_at fs b s k) × (t' ≡ swayed_of fs b s k t)
+moved-chunk fs b s families front count k h t t' one e =
+    let w = chunk-three fs families front count k h in
+    rw (sym w.0, sym w.1, sym w.2) e
 
 -- ---- the loop: what is still marked is still to be visited
 

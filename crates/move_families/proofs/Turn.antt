@@ -1,7 +1,7 @@
 -- The loop over runs of families: what is left of the list is still to be moved, and its looks are still to be counted.
-use Rattle.std.proofs.Common.{◌≡◌, ℕ, ◌+◌, ◌-◌, ◌%◌, ◌^◌, ◌<◌, ◌≤◌, min, ◌⊎◌, List, [], ◌∷◌, ◌++◌, length, get_or, take, drop, sym, refl, ap, ◌∙◌, inl, inr, ⊎_elim, arith, length-drop, take-append-drop, length-take, length-take-le, drop-drop}
+use Rattle.std.proofs.Common.{◌≡◌, ℕ, ◌+◌, ◌-◌, ◌%◌, ◌^◌, ◌<◌, ◌≤◌, min, ◌⊎◌, List, [], ◌∷◌, ◌++◌, length, get_or, drop, sym, refl, ap, ◌∙◌, inl, inr, ⊎_elim, arith, length-append}
 use native.Mathlib.Decide.{dec_lt}
-use Rattle.families.proofs.Walk.{family-left, short-left}
+use Rattle.families.proofs.Walk.{family-left}
 use Rattle.move_halves.specs.Halves.{swayed, looks_of}
 use Rattle.move_families.specs.Swayed.{swayed_all, looks_all}
 
@@ -52,59 +52,49 @@ split b s (all ∷ (flip ∷ (out ∷ xs))) ys t h =
     let r = split b s xs ys (swayed all flip out b s t) (⊎_elim (λ d. inl (omega arith)) (λ z. inr z) h) in
     (omega (arith, r.0), r.1)
 
--- a run's words are a multiple of three, or all that are left
-whole : (n m : ℕ) → n ≡ min 192 m → (n % 3 ≡ 0) ⊎ (n ≡ m)
-whole n m e = go (dec_lt m 192)
+-- a run's words are a multiple of three, or none are left behind them
+whole : (run more : List ℕ) → length run ≡ min 192 (length (run ++ more)) → (length run % 3 ≡ 0) ⊎ (length more ≡ 0)
+whole run more e = go (dec_lt (length (run ++ more)) 192)
   where
-    go : Dec (m < 192) → (n % 3 ≡ 0) ⊎ (n ≡ m)
-    go (yes l) = inr (omega arith)
-    go (no l) = inl (let f : n ≡ 192 = omega arith in omega arith)
+    go : Dec (length (run ++ more) < 192) → (length run % 3 ≡ 0) ⊎ (length more ≡ 0)
+    go (yes l) = inr (omega (arith, length-append run more))
+    go (no l) = inl (let f : length run ≡ 192 = omega arith in omega arith)
 
-pub run_short : (fs : List ℕ) (i n : ℕ) → n ≤ 192 → length (take (i + n - i) (drop i fs)) ≤ 192
-run_short fs i n h = simp length-take (omega arith)
-
--- what holds at each turn: the families before i are moved, and those behind them are left
-pub record Left (fs : List ℕ) (b s : ℕ) (t₀ t : List ℕ) (looks i : ℕ) : Type 0 where
-  pub table : swayed_all (drop i fs) b s t ≡ swayed_all fs b s t₀
-  pub count : (looks + looks_all (drop i fs) b s) % 2 ^ 64 ≡ looks_all fs b s % 2 ^ 64
+-- what holds at each turn: the families before the rest are moved, and those of the rest are left
+pub record Left (fs : List ℕ) (b s : ℕ) (t₀ t : List ℕ) (looks : ℕ) (rest : List ℕ) : Type 0 where
+  pub table : swayed_all rest b s t ≡ swayed_all fs b s t₀
+  pub count : (looks + looks_all rest b s) % 2 ^ 64 ≡ looks_all fs b s % 2 ^ 64
   pub fits : looks < 2 ^ 64
-  pub within : i ≤ length fs
 
 module _ (fs : List ℕ) (b s : ℕ) (t₀ : List ℕ) where
-  pub left-all : Left fs b s t₀ t₀ 0 0
-  left-all = record { table = refl; count = ap (λ (m : ℕ). m % 2 ^ 64) (none (looks_all fs b s)); fits = omega arith; within = omega arith }
+  pub left-all : (rest : List ℕ) → rest ≡ fs → Left fs b s t₀ t₀ 0 rest
+  left-all rest e =
+      record {
+        table = ap (λ (l : List ℕ). swayed_all l b s t₀) e;
+        count = ap (λ (l : List ℕ). (0 + looks_all l b s) % 2 ^ 64) e ∙ ap (λ (m : ℕ). m % 2 ^ 64) (none (looks_all fs b s));
+        fits = omega arith;
+      }
     where
       none : (x : ℕ) → 0 + x ≡ x
       none x = omega arith
 
   -- a turn: a run of families
-  pub left-run : (t t' : List ℕ) (looks i n one next : ℕ) → i < length fs → n ≡ min 192 (length fs - i) → Left fs b s t₀ t looks i
-      → (one ≡ looks_all (take (i + n - i) (drop i fs)) b s % 2 ^ 64) × (t' ≡ swayed_all (take (i + n - i) (drop i fs)) b s t)
-      → next ≡ (looks + one) % 2 ^ 64 → Left fs b s t₀ t' next (i + n)
-  left-run t t' looks i n one next h size left e f =
-      let run : List ℕ = take n (drop i fs) in
-      let d : i + n - i ≡ n = omega arith in
-      let one-run : one ≡ looks_all run b s % 2 ^ 64 = e.0 ∙ ap (λ (m : ℕ). looks_all (take m (drop i fs)) b s % 2 ^ 64) d in
-      let run-table : t' ≡ swayed_all run b s t = e.1 ∙ ap (λ (m : ℕ). swayed_all (take m (drop i fs)) b s t) d in
-      let more : List ℕ = drop (i + n) fs in
-      let w : drop i fs ≡ run ++ more = sym (take-append-drop n (drop i fs)) ∙ ap (λ (l : List ℕ). run ++ l) (drop-drop n i fs) in
-      let v = split b s run more t (⊎_elim (λ d. inl (threes d)) (λ z. inr (omega (arith, length-drop (i + n) fs))) (whole n (length fs - i) size)) in
-      let x : looks_all (drop i fs) b s ≡ looks_all run b s + looks_all more b s = ap (λ (l : List ℕ). looks_all l b s) w ∙ v.0 in
-      let k = looks-run looks one (looks_all run b s) (looks_all more b s) (looks_all (drop i fs) b s) (looks_all fs b s) next left.count x one-run f in
+  pub left-run : (t t' : List ℕ) (looks one next : ℕ) (rest run more : List ℕ) → rest ≡ run ++ more → length run ≡ min 192 (length rest) → Left fs b s t₀ t looks rest
+      → (one ≡ looks_all run b s % 2 ^ 64) × (t' ≡ swayed_all run b s t) → next ≡ (looks + one) % 2 ^ 64 → Left fs b s t₀ t' next more
+  left-run t t' looks one next rest run more w size left e f =
+      let v = split b s run more t (whole run more (size ∙ ap (λ (l : List ℕ). min 192 (length l)) w)) in
+      let x : looks_all rest b s ≡ looks_all run b s + looks_all more b s = ap (λ (l : List ℕ). looks_all l b s) w ∙ v.0 in
+      let k = looks-run looks one (looks_all run b s) (looks_all more b s) (looks_all rest b s) (looks_all fs b s) next left.count x e.0 f in
       record {
-        table = ap (swayed_all more b s) run-table ∙ sym v.1 ∙ ap (λ (l : List ℕ). swayed_all l b s t) (sym w) ∙ left.table;
+        table = ap (swayed_all more b s) e.1 ∙ sym v.1 ∙ ap (λ (l : List ℕ). swayed_all l b s t) (sym w) ∙ left.table;
         count = k.0;
         fits = k.1;
-        within = omega arith;
       }
-    where
-      threes : n % 3 ≡ 0 → length (take n (drop i fs)) % 3 ≡ 0
-      threes d = let l : length (take n (drop i fs)) ≡ n = length-take-le n (drop i fs) (omega (arith, length-drop i fs)) in omega arith
 
   -- the end
-  pub left-none : (t : List ℕ) (looks i : ℕ) → length fs - i ≤ 2 → Left fs b s t₀ t looks i → (looks ≡ looks_all fs b s % 2 ^ 64) × (t ≡ swayed_all fs b s t₀)
-  left-none t looks i h left =
-      let e = short (drop i fs) b s t (short-left fs i h) in
+  pub left-none : (t : List ℕ) (looks : ℕ) (rest : List ℕ) → length rest ≡ 0 → Left fs b s t₀ t looks rest → (looks ≡ looks_all fs b s % 2 ^ 64) × (t ≡ swayed_all fs b s t₀)
+  left-none t looks rest h left =
+      let e = short rest b s t (omega arith) in
       (last looks _ _ left.fits e.0 left.count, sym e.1 ∙ left.table)
     where
       last : (x y z : ℕ) → x < 2 ^ 64 → y ≡ 0 → (x + y) % 2 ^ 64 ≡ z → x ≡ z

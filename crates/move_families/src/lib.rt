@@ -42,10 +42,9 @@ fn fill_family(all: u64, flip: u64, out: u64, b: u64, t: &mut [u32])
 pub fn fill_families(fs: &[u64], b: u64, t: &mut [u32])
     ensures { t.new ≡ filled (requirements_in fs.now) b t.old }
 {
-    let mut i: usize = 0;
-    while 2 < fs.len() - i {
-        fill_family(fs[i], fs[i + 1], fs[i + 2], b, t);
-        i += 3;
+    let (families, _) = fs.as_chunks::<3>();
+    for &[all, flip, out] in families {
+        fill_family(all, flip, out, b, t);
     }
 }
 
@@ -71,12 +70,8 @@ pub fn sway_families(fs: &[u64], b: u64, s: usize, t: &mut [u32]) -> usize
     ensures { (result ≡ looks_all fs.now b s % 2 ^ 64) × (t.new ≡ swayed_all fs.now b s t.old) }
 {
     let mut looks: usize = 0;
-    let mut i: usize = 0;
-    while i < fs.len() {
-        let end = i + sets::least(marks::RUN, fs.len() - i);
-        let one = marks::sway_run(&fs[i..end], b, s, t);
-        looks = std::num::wrapping_add_usize(looks, one);
-        i = end;
+    for run in fs.chunks(marks::RUN) {
+        looks = looks.wrapping_add(marks::sway_run(run, b, s, t));
     }
     looks
 }

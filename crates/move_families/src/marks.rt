@@ -12,11 +12,9 @@ fn marks_of(run: &[u64], b: u64, s: usize) -> u64
     ensures { result ≡ marks_from (length run.now / 3) 0 run.now b s }
 {
     let mut word: u64 = 0;
-    let mut k = run.len() / 3;
-    while 0 < k {
-        k -= 1;
-        let i = 3 * k;
-        word = 2 * word + move_halves::mark_of(run[i], run[i + 1], run[i + 2], b, s);
+    let (families, _) = run.as_chunks::<3>();
+    for &[all, flip, out] in families.iter().rev() {
+        word = 2 * word + move_halves::mark_of(all, flip, out, b, s);
     }
     word
 }
@@ -26,12 +24,12 @@ pub fn sway_run(run: &[u64], b: u64, s: usize, t: &mut [u32]) -> usize
     requires { length run.now ≤ 192 }
     ensures { (result ≡ looks_all run.now b s % 2 ^ 64) × (t.new ≡ swayed_all run.now b s t.old) }
 {
+    let (families, _) = run.as_chunks::<3>();
     let mut marks = marks_of(run, b, s);
     let mut looks: usize = 0;
     while marks != 0 {
-        let i = 3 * sets::lowest(marks);
-        let one = move_halves::move_family(run[i], run[i + 1], run[i + 2], b, s, t);
-        looks = std::num::wrapping_add_usize(looks, one);
+        let [all, flip, out] = families[sets::lowest(marks)];
+        looks = looks.wrapping_add(move_halves::move_family(all, flip, out, b, s, t));
         marks = sets::without_lowest(marks);
     }
     looks

@@ -1,24 +1,34 @@
--- `move_families::marks::marks_of` meets its contract.
-use Rattle.std.proofs.Common.{◌-◌, ◌/◌, length, arith}
-use Rattle.move_families.specs.Marks.{near_of}
-use Rattle.move_families.proofs.Marked.{digit-below, marks-none, marks-room, marks-turn}
+-- `move_families::marks::marks_of` meets its contract: the marks of the families behind those still to come are made.
+use Rattle.std.proofs.Common.{ap, ◌∙◌, arith}
+use Rattle.std.specs.Slice.Iter.{iter_rest}
+use Rattle.std.specs.Iterator.Adapters.{rev_source}
+use Rattle.move_families.proofs.Marked.{digit-below, marking-none, marking-room, marking-turn, marking-done}
 use Rattle.move_families.proofs.marks.marks_of.Goals as goal
 
-pub loop-k-init : goal.loop-k-init
-loop-k-init c =
+pub loop-all-init : goal.loop-all-init
+loop-all-init c =
     let a = c.args in
-    (marks-none a.run.now a.b a.s (length a.run.now / 3), omega arith)
+    marking-none a.run.now a.b a.s _
+    (ap (λ s. iter_rest (rev_source s)) c.into_iter-all-iterator.ensures.into_iter_gives ∙ ap iter_rest c.rev-all-items.ensures.source ∙ c.iter.ensures.rest ∙ c.as_chunks.ensures.front)
 
 pub overflow_mul-word : goal.overflow_mul-word
 overflow_mul-word c =
-    let h = marks-room c.args.run.now c.args.b c.args.s (length c.args.run.now / 3) c.loop-k.k c.loop-k.word (omega (arith, c.requires)) c.loop-k-test.true c.loop-k.invariant.0 in
+    let a = c.args in
+    let h = marking-room a.run.now a.b a.s _ _ _ c.loop-all.word c.in-Some.ensures.steps c.loop-all.invariant c.requires in
     record { fits = omega (arith, h) }
 
 pub overflow_add-word : goal.overflow_add-word
 overflow_add-word c =
-    let h = marks-room c.args.run.now c.args.b c.args.s (length c.args.run.now / 3) c.loop-k.k c.loop-k.word (omega (arith, c.requires)) c.loop-k-test.true c.loop-k.invariant.0 in
-    record { fits = omega (arith, h, digit-below (near_of c.args.run.now c.args.b c.args.s (c.loop-k.k - 1)) _ c.mark_of.ensures) }
+    let a = c.args in
+    let h = marking-room a.run.now a.b a.s _ _ _ c.loop-all.word c.in-Some.ensures.steps c.loop-all.invariant c.requires in
+    record { fits = omega (arith, h, digit-below _ _ c.mark_of.ensures) }
 
-pub loop-k-preserved : goal.loop-k-preserved
-loop-k-preserved c =
-    (marks-turn c.args.run.now c.args.b c.args.s (length c.args.run.now / 3) c.loop-k.k c.loop-k.word _ c.loop-k-test.true c.loop-k.invariant.1 c.loop-k.invariant.0 c.mark_of.ensures, omega arith)
+pub loop-all-preserved : goal.loop-all-preserved
+loop-all-preserved c =
+    let a = c.args in
+    marking-turn a.run.now a.b a.s _ _ _ c.loop-all.word c.in-Some.ensures.steps c.loop-all.invariant _ c.mark_of.ensures
+
+pub returns : goal.returns
+returns c =
+    let a = c.args in
+    marking-done a.run.now a.b a.s _ c.loop-all.word c.in-None.ensures.steps.0 c.loop-all.invariant
