@@ -1,9 +1,12 @@
--- The requirements of some families judged one after the other, as a walk meets them.
-use Rattle.std.specs.Prelude.{None}
-use mathlib.Core.Path.{◌≡◌, sym, ap, ◌∙◌}
-use mathlib.Core.Bool.{true, false}
-use mathlib.Core.List.{List, ◌∷◌}
-use Prim.Native.Nat.{ℕ, suc, ◌+◌, ◌-◌, ◌^◌, ◌≤◌, ◌<◌}
+-- The requirements of some families judged one after the other, as an iterator yields them.
+use Rattle.std.specs.Prelude.{Option, Some, None, not, slice_get}
+use Rattle.std.specs.List.{list_any}
+use Rattle.std.specs.Option.{is_some}
+use Rattle.rules.specs.declared.BitNumber.{BitNumber}
+use mathlib.Core.Path.{◌≡◌, refl, sym, ap, ◌∙◌}
+use mathlib.Core.Bool.{Bool, true, false, ◌||◌}
+use mathlib.Core.List.{List, [], ◌∷◌}
+use Prim.Native.Nat.{ℕ, zero, suc}
 use native.Mathlib.Omega.{arith}
 use lib.Dec.{leb}
 use lib.ListN.{length}
@@ -12,29 +15,32 @@ use Rattle.rules.specs.Requirements.{judgement, is_by, met_by_code}
 use Rattle.rules.specs.Code.{unmet_from}
 use Rattle.rules.specs.declared.Requirement.{Requirement}
 use Rattle.rules.proofs.Unmet.{listed-met, listed-unmet, unmet-length}
-use Rattle.code_walking.specs.Walking.{ahead, here, next}
-use Rattle.code_walking.specs.declared.Walk.{Walk}
-use Rattle.code_walking.proofs.Ahead.{over_none, ahead_step}
 use Rattle.code_judging.specs.Judging.{judgement_at, some_unmet}
 
 -- ---- by number
 
-module _ (bits fs : List ℕ) (w : Walk) (k : ℕ) where
-  pub at_here : w.at + 3 ≤ length fs → w.rest < 2 ^ 64 → k ≡ 0 → judgement 64 bits (here fs w) ≡ judgement_at 64 bits (ahead fs w) k
+module _ (bits : List ℕ) where
+  pub at_one : (rs : List Requirement) (k : ℕ) (r : Requirement) → Some r ≡ slice_get rs k → judgement 64 bits r ≡ judgement_at 64 bits rs k
   unfolding judgement_at
-  at_here h fits z = sym (ap (judgement_at 64 bits (ahead fs w)) z ∙ ap (λ (rs : List Requirement). judgement_at 64 bits rs 0) (ahead_step fs w h fits))
+  at_one [] k r e = cc
+  at_one (s ∷ rs) zero r e = cc
+  at_one (s ∷ rs) (suc k) r e = at_one rs k r e
 
-  pub at_next : w.at + 3 ≤ length fs → w.rest < 2 ^ 64 → (k ≡ 0 → ⊥) → judgement_at 64 bits (ahead fs (next fs w)) (k - 1) ≡ judgement_at 64 bits (ahead fs w) k
+  pub at_none : (rs : List Requirement) (k : ℕ) → None ≡ slice_get rs k → None ≡ judgement_at 64 bits rs k
   unfolding judgement_at
-  at_next h fits o =
-      let e : k ≡ suc (k - 1) = omega arith in
-      sym (ap (judgement_at 64 bits (ahead fs w)) e ∙ ap (λ (rs : List Requirement). judgement_at 64 bits rs (suc (k - 1))) (ahead_step fs w h fits))
-
-  pub at-end : length fs < w.at + 3 → None ≡ judgement_at 64 bits (ahead fs w) k
-  unfolding judgement_at
-  at-end h = sym (ap (λ (rs : List Requirement). judgement_at 64 bits rs k) (over_none fs w h))
+  at_none [] k e = refl
+  at_none (s ∷ rs) zero e = cc
+  at_none (s ∷ rs) (suc k) e = at_none rs k e
 
 -- ---- whether one is unmet
+
+-- what an `is_none` says of a judgement
+pub none-is : (j : Option BitNumber) (b : Bool) → is_some j ≡ not b → b ≡ not (is_by j)
+unfolding is_by
+none-is None true e = refl
+none-is None false e = cc
+none-is (Some k) true e = cc
+none-is (Some k) false e = refl
 
 module _ (bits : List ℕ) (r : Requirement) (rs : List Requirement) where
   some-met : met_by_code 64 bits r ≡ true → some_unmet bits (r ∷ rs) ≡ some_unmet bits rs
@@ -45,15 +51,12 @@ module _ (bits : List ℕ) (r : Requirement) (rs : List Requirement) where
   unfolding some_unmet
   some-unmet e = ap (λ (l : List ℕ). leb 1 (length l)) (listed-unmet 0 64 bits r rs e) ∙ le-leb 1 (suc (length (unmet_from 1 64 bits rs))) (omega arith)
 
-module _ (bits fs : List ℕ) (w : Walk) where
-  pub unmet-here : w.at + 3 ≤ length fs → w.rest < 2 ^ 64 → is_by (judgement 64 bits (here fs w)) ≡ false → true ≡ some_unmet bits (ahead fs w)
-  unfolding met_by_code
-  unmet-here h fits e = sym (ap (some_unmet bits) (ahead_step fs w h fits) ∙ some-unmet bits (here fs w) (ahead fs (next fs w)) e)
-
-  pub unmet-next : w.at + 3 ≤ length fs → w.rest < 2 ^ 64 → is_by (judgement 64 bits (here fs w)) ≡ true → some_unmet bits (ahead fs (next fs w)) ≡ some_unmet bits (ahead fs w)
-  unfolding met_by_code
-  unmet-next h fits e = sym (ap (some_unmet bits) (ahead_step fs w h fits) ∙ some-met bits (here fs w) (ahead fs (next fs w)) e)
-
-  pub unmet-end : length fs < w.at + 3 → false ≡ some_unmet bits (ahead fs w)
-  unfolding some_unmet unmet_from
-  unmet-end h = sym (ap (some_unmet bits) (over_none fs w h) ∙ lt-leb 1 0 (omega arith))
+pub any_is : (bits : List ℕ) (rs : List Requirement) → list_any (λ r. not (met_by_code 64 bits r)) rs ≡ some_unmet bits rs
+unfolding some_unmet unmet_from
+any_is bits [] = sym (lt-leb 1 0 (omega arith))
+any_is bits (r ∷ rs) = go (met_by_code 64 bits r) refl (any_is bits rs)
+  where
+    go : (t : Bool) → met_by_code 64 bits r ≡ t → list_any (λ r. not (met_by_code 64 bits r)) rs ≡ some_unmet bits rs
+        → list_any (λ r. not (met_by_code 64 bits r)) (r ∷ rs) ≡ some_unmet bits (r ∷ rs)
+    go true e q = ap (λ (t : Bool). not t || list_any (λ r. not (met_by_code 64 bits r)) rs) e ∙ q ∙ sym (some-met bits r rs e)
+    go false e q = ap (λ (t : Bool). not t || list_any (λ r. not (met_by_code 64 bits r)) rs) e ∙ sym (some-unmet bits r rs e)

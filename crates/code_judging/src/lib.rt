@@ -1,65 +1,61 @@
 // By which bit a code meets a requirement, judged from its bits by masks.
 #![tactic(auto)]
 
-ghost use Rattle.std.specs.Prelude.{◌≡◌, ◌&&◌};
-ghost use Rattle.rules.specs.Requirements.{asks, wholly, met, judgement};
+ghost use Rattle.std.specs.Prelude.{◌≡◌, ◌&&◌, not};
+ghost use Rattle.rules.specs.Requirements.{asks, wholly, met, judgement, met_by_code};
 ghost use Rattle.families.specs.Families.{requirements_in};
 ghost use Rattle.code_judging.specs.Judging.{judgement_at, judged, some_unmet, any_unmet};
 
+use code_walking::Requirements;
 use rules::{BitNumber, Encoding, Requirement};
 
 // Whether the bit b has value 0 on the whole block z and 1 on the whole block o.
 fn parts(b: u64, z: u64, o: u64) -> bool
     ensures { result ≡ (wholly 64 b 0 z && wholly 64 b 1 o) }
 {
-    if b & z == 0 {
-        return b & o == o;
-    }
-    false
+    b & z == 0 && b & o == o
 }
 
 // Whether it meets the requirement with these blocks: it has one value on the whole first and the other on the whole second.
 pub fn meets(b: u64, first: u64, second: u64) -> bool
     ensures { result ≡ met 64 (asks first second) b }
 {
-    if parts(b, first, second) {
-        return true;
-    }
-    parts(b, second, first)
+    parts(b, first, second) || parts(b, second, first)
 }
 
 // The lowest bit of the code that meets it, or that none does.
 pub fn judge(bits: &[u64], r: Requirement) -> Option<BitNumber>
     ensures { result ≡ judgement 64 bits.now r }
 {
-    let mut k: usize = 0;
-    while k < bits.len() {
-        if meets(bits[k], r.first, r.second) {
+    for (k, b) in bits.iter().enumerate() {
+        if meets(*b, r.first, r.second) {
             return Some(BitNumber(k));
         }
-        k += 1;
     }
     None
+}
+
+// Whether no bit of the code meets it.
+pub fn is_unmet(bits: &[u64], r: Requirement) -> bool
+    ensures { result ≡ not (met_by_code 64 bits.now r) }
+{
+    judge(bits, r).is_none()
 }
 
 // The judgement of the requirement with that number of the families; beyond them there is none to meet.
 fn judge_in(bits: &[u64], fs: &[u64], number: usize) -> Option<BitNumber>
     ensures { result ≡ judgement_at 64 bits.now (requirements_in fs.now) number }
 {
-    let mut w = code_walking::enter(fs, 0);
-    let mut left = number;
-    while !code_walking::is_over(fs, w) {
-        if left == 0 {
-            return judge(bits, code_walking::requirement(fs, w));
-        }
-        w = code_walking::step(fs, w);
-        left -= 1;
-    }
-    None
+    let r = Requirements::new(fs).nth(number)?;
+    judge(bits, r)
 }
 
 // The judgement of the listing's requirement with that number; beyond those asked there is none to meet.
-pub fn judge_number(t: rules::Listing, e: Encoding, r: rules::RequirementNumber) -> Option<BitNumber>
+pub fn judge_number(
+    t: rules::Listing,
+    e: Encoding,
+    r: rules::RequirementNumber,
+) -> Option<BitNumber>
     ensures { result ≡ judged t e r }
 {
     let k = r.0;
@@ -78,15 +74,7 @@ pub fn judge_number(t: rules::Listing, e: Encoding, r: rules::RequirementNumber)
 pub fn is_unmet_in(bits: &[u64], fs: &[u64]) -> bool
     ensures { result ≡ some_unmet bits.now (requirements_in fs.now) }
 {
-    let mut w = code_walking::enter(fs, 0);
-    while !code_walking::is_over(fs, w) {
-        let judged = judge(bits, code_walking::requirement(fs, w));
-        if !judged.is_met() {
-            return true;
-        }
-        w = code_walking::step(fs, w);
-    }
-    false
+    Requirements::new(fs).any(|r| is_unmet(bits, r))
 }
 
 // The same of the encoder's answer.

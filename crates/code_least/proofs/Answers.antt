@@ -1,4 +1,5 @@
 -- What a search told, as the encoder's answer, and the answer for a listing.
+use Rattle.std.specs.Prelude.{Option, Some, None, Ok}
 use mathlib.Core.Path.{◌≡◌, refl, sym, ap, ap₂, subst, ◌∙◌}
 use mathlib.Core.Bool.{Bool, true, false, cond, ◌&&◌}
 use mathlib.Core.List.{List, ◌++◌}
@@ -21,7 +22,6 @@ use Rattle.rules.specs.declared.Refusal.TheVariants.{Limit, NoShortCode}
 use Rattle.rules.proofs.Good.{AllGood}
 use Rattle.rules.proofs.Least.{least-code, meets-all}
 use Rattle.code_search.specs.Search.{told_width}
-use Rattle.code_search.specs.declared.Found.{Found}
 use Rattle.families.specs.Families.{requirements_in}
 use Rattle.code_fair.specs.Fair.{fair}
 use Rattle.code_fair.proofs.Limits.{fair-grants}
@@ -32,7 +32,6 @@ use Rattle.code_encoding.specs.Encode.{encoded_as}
 use Rattle.code_least.specs.Drawn.{Drawn}
 use Rattle.code_least.specs.Encode.{coded_as, Within, found_as, answer_of, small_encoded, least_encoded}
 use Rattle.rules.specs.Refusals.{refused}
-use Rattle.std.specs.Prelude.{Ok}
 
 -- ---- the columns of a small machine
 
@@ -62,19 +61,19 @@ coded-is n asked code bits e =
 -- ---- what a search told
 
 -- where it found a code, its places are there
-pub width-within : (f : Found) (w : ℕ) (l : List ℕ) → f ≡ Found.Width w → Within f l → (w ≤ length l) × (w ≤ most_bits)
+pub width-within : (f : Option ℕ) (w : ℕ) (l : List ℕ) → f ≡ Some w → Within f l → (w ≤ length l) × (w ≤ most_bits)
 width-within f w l e h = rw e at h
 
-pub width-as : (n asked : ℕ) (f : Found) (w : ℕ) (l : List ℕ) → f ≡ Found.Width w → coded_as n asked (take w l) ≡ found_as n asked f l
+pub width-as : (n asked : ℕ) (f : Option ℕ) (w : ℕ) (l : List ℕ) → f ≡ Some w → coded_as n asked (take w l) ≡ found_as n asked f l
 unfolding found_as
-width-as n asked f w l e = sym (ap (λ (g : Found). found_as n asked g l) e)
+width-as n asked f w l e = sym (ap (λ (g : Option ℕ). found_as n asked g l) e)
 
-pub nothing-as : (n asked : ℕ) (f : Found) (l : List ℕ) → f ≡ Found.Nothing → refused NoShortCode 0 ≡ found_as n asked f l
+pub nothing-as : (n asked : ℕ) (f : Option ℕ) (l : List ℕ) → f ≡ None → refused NoShortCode 0 ≡ found_as n asked f l
 unfolding found_as
-nothing-as n asked f l e = sym (ap (λ (g : Found). found_as n asked g l) e)
+nothing-as n asked f l e = sym (ap (λ (g : Option ℕ). found_as n asked g l) e)
 
 -- the least code goes to the first of its five places
-module _ (n : ℕ) (rs : List Requirement) (came : List ℕ) (five : length came ≡ most_small_bits) {f : Found} {l : List ℕ} (e : (f, l) ≡ told_width (least n rs) came) where
+module _ (n : ℕ) (rs : List Requirement) (came : List ℕ) (five : length came ≡ most_small_bits) {f : Option ℕ} {l : List ℕ} (e : (f, l) ≡ told_width (least n rs) came) where
   pub told-within : length l ≡ most_small_bits → Within f l
   unfolding told_width
   told-within k = go (least n rs) refl e
@@ -82,12 +81,12 @@ module _ (n : ℕ) (rs : List Requirement) (came : List ℕ) (five : length came
       go : (x : First) → least n rs ≡ x → (f, l) ≡ told_width x came → Within f l
       go (first code) s q =
           let w = (least-code n rs code s).few in
-          rw (ap (λ (p : Found × List ℕ). p.0) q) (omega (arith, k, w), omega (arith, w))
-      go none s q = rw (ap (λ (p : Found × List ℕ). p.0) q) tt
+          rw (ap (λ (p : Option ℕ × List ℕ). p.0) q) (omega (arith, k, w), omega (arith, w))
+      go none s q = rw (ap (λ (p : Option ℕ × List ℕ). p.0) q) tt
 
   pub told-answer : (asked : ℕ) → found_as n asked f l ≡ answer_of n asked (least n rs)
   unfolding told_width found_as answer_of
-  told-answer asked = ap (λ (p : Found × List ℕ). found_as n asked p.0 p.1) e ∙ go (least n rs)
+  told-answer asked = ap (λ (p : Option ℕ × List ℕ). found_as n asked p.0 p.1) e ∙ go (least n rs)
     where
       go : (x : First) → found_as n asked (told_width x came).0 (told_width x came).1 ≡ answer_of n asked x
       go (first code) = ap (coded_as n asked) (take-append_seam code (drop (length code) came))

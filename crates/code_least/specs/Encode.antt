@@ -1,5 +1,5 @@
 -- What the encoder of small machines answers: 02's least code, or the refusal.
-use Rattle.std.specs.Prelude.{cond, List, ℕ, ◌≤◌, leb, length, take, Ok, Result}
+use Rattle.std.specs.Prelude.{cond, List, ℕ, ◌≤◌, leb, length, take, Option, Some, None, Ok, Result}
 use Rattle.sets.specs.Places.{padded}
 use Rattle.rules.specs.Limits.{most_bits, most_small, most_small_asked}
 use Rattle.rules.specs.Least.{turned, bits_for, First, first, none, least, least_coding}
@@ -7,7 +7,6 @@ use Rattle.rules.specs.declared.Requirement.{Requirement}
 use Rattle.rules.specs.declared.Listing.{Listing}
 use Rattle.rules.specs.declared.Encoding.{Encoding}
 use Rattle.rules.specs.declared.Refusal.TheVariants.{Limit, NoShortCode}
-use Rattle.code_search.specs.declared.Found.{Found}
 use Rattle.code_fair.specs.Fair.{fair}
 use Rattle.code_encoding.specs.Encode.{encoded_as}
 use Rattle.rules.specs.Refusals.{refused}
@@ -26,15 +25,15 @@ coded_as n asked code = Ok (record {
 })
 
 -- what a search found in the first of some places
-unfoldable pub found_as : ℕ → ℕ → Found → List ℕ → Result Encoding Refused
+unfoldable pub found_as : ℕ → ℕ → Option ℕ → List ℕ → Result Encoding Refused
 unfolding coded_as
-found_as n asked (Found.Width w) places = coded_as n asked (take w places)
-found_as n asked Found.Nothing places = refused NoShortCode 0
+found_as n asked (Some w) places = coded_as n asked (take w places)
+found_as n asked None places = refused NoShortCode 0
 
 -- the places are there
-abbrev pub Within : Found → List ℕ → Type 0
-Within (Found.Width w) places = (w ≤ length places) × (w ≤ most_bits)
-Within Found.Nothing places = Unit {0}
+abbrev pub Within : Option ℕ → List ℕ → Type 0
+Within (Some w) places = (w ≤ length places) × (w ≤ most_bits)
+Within None places = Unit {0}
 
 unfoldable pub answer_of : ℕ → ℕ → First → Result Encoding Refused
 unfolding coded_as

@@ -11,7 +11,6 @@ ghost use Rattle.code_search.specs.Search.{told_width};
 ghost use Rattle.code_least.specs.Drawn.{Drawn, Small};
 ghost use Rattle.code_least.specs.Encode.{coded_as, Within, found_as, answer_of, small_encoded, least_encoded};
 
-use code_search::Found;
 use rules::{Encoding, Refusal};
 
 // The columns of the most states that a small machine has.
@@ -36,13 +35,13 @@ fn coded_as(n: usize, asked: usize, code: &[usize]) -> Encoding
 }
 
 // The answer for what a search found in the first of these places.
-fn found_as(n: usize, asked: usize, found: Found, code: &[usize]) -> Encoding
+fn found_as(n: usize, asked: usize, found: Option<usize>, code: &[usize]) -> Encoding
     requires { (n ≤ most_states) × Within found code.now }
     ensures { result ≡ found_as n asked found code.now }
 {
     match found {
-        Found::Width(w) => coded_as(n, asked, &code[..w]),
-        Found::Nothing => code_encoding::uncoded_as(Refusal::NoShortCode),
+        Some(w) => coded_as(n, asked, &code[..w]),
+        None => code_encoding::uncoded_as(Refusal::NoShortCode),
     }
 }
 
@@ -54,8 +53,8 @@ fn columns_of(n: usize) -> usize
     1 << (n - 1)
 }
 
-// The least code of a small machine, as its columns.
-fn search_code(n: usize, asked: usize, fs: &[u64], code: &mut [usize]) -> Found
+// The least code of a small machine, as its columns in the first places: its width, or that there is none.
+fn search_code(n: usize, asked: usize, fs: &[u64], code: &mut [usize]) -> Option<usize>
     requires { Small n asked fs.now × (length code.old ≡ most_small_bits) }
     ensures { (result, code.new) ≡ told_width (least n (requirements_in fs.now)) code.old }
 {

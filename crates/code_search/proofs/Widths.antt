@@ -1,4 +1,5 @@
 -- The widths of a search, one after the other: the first code of the first width that has one is the first of all codes up to any width beyond it.
+use Rattle.std.specs.Prelude.{Some, None}
 use mathlib.Core.Path.{◌≡◌, refl, sym, ap, ◌∙◌}
 use mathlib.Core.Bool.{Bool, true, false, true≢false, false≢true}
 use mathlib.Core.List.{List, ◌++◌}
@@ -10,7 +11,6 @@ use lib.Seq.{length-take-le}
 use Rattle.rules.specs.Least.{codes_of, codes_up_to, First, first, none, first_with}
 use Rattle.rules.proofs.Codes.{listed-code, first_of, or_then, first-append}
 use Rattle.code_search.specs.Search.{takes_all, searched, told, told_width}
-use Rattle.code_search.specs.declared.Found.{Found}
 use Rattle.code_search.proofs.Order.{search-first}
 
 module _ (p : List ℕ → Bool) (c : ℕ) where
@@ -53,16 +53,16 @@ module _ (met cs : List ℕ) (left w : ℕ) (l : w ≤ length cs) (r : Bool) (ys
 
   -- a code was found
   pub width-found : r ≡ true → ((k : ℕ) → k < w → first_with (takes_all met left) (codes_of (length met) k) ≡ none) → Searched met cs left w r ys
-      → (Found.Width w, ys ++ drop w cs) ≡ told_width (first_with (takes_all met left) (codes_up_to (length met) (length cs))) cs
+      → (Some w, ys ++ drop w cs) ≡ told_width (first_with (takes_all met left) (codes_up_to (length met) (length cs))) cs
   unfolding told told_width
   width-found q h e = go (first_with (takes_all met left) (codes_of (length met) w)) refl (came e)
     where
       go : (f : First) → first_with (takes_all met left) (codes_of (length met) w) ≡ f → (r, ys) ≡ told f (take w cs)
-          → (Found.Width w, ys ++ drop w cs) ≡ told_width (first_with (takes_all met left) (codes_up_to (length met) (length cs))) cs
+          → (Some w, ys ++ drop w cs) ≡ told_width (first_with (takes_all met left) (codes_up_to (length met) (length cs))) cs
       go (first code) s g =
           let wide : length code ≡ w = (listed-code (length met) w code (first_of (takes_all met left) (codes_of (length met) w) code s).listed).0 in
-          ap (λ (k : List ℕ). (Found.Width w, k ++ drop w cs)) (ap (λ (b : Bool × List ℕ). b.1) g)
-          ∙ ap (λ (k : ℕ). (Found.Width k, code ++ drop k cs)) (sym wide)
+          ap (λ (k : List ℕ). (Some w, k ++ drop w cs)) (ap (λ (b : Bool × List ℕ). b.1) g)
+          ∙ ap (λ (k : ℕ). (Some k, code ++ drop k cs)) (sym wide)
           ∙ sym (ap (λ (f : First). told_width f cs) (first-up-to (takes_all met left) (length met) (length cs) w code l h s))
       go none s g = absurd (true≢false (sym q ∙ ap (λ (b : Bool × List ℕ). b.0) g))
 
@@ -85,6 +85,6 @@ none_more f w h e k l = go (ℕ_discrete k w)
 
 -- no width has one
 pub no-width : (met cs : List ℕ) (left : ℕ) → ((k : ℕ) → k ≤ length cs → first_with (takes_all met left) (codes_of (length met) k) ≡ none)
-    → (Found.Nothing, cs) ≡ told_width (first_with (takes_all met left) (codes_up_to (length met) (length cs))) cs
+    → (None, cs) ≡ told_width (first_with (takes_all met left) (codes_up_to (length met) (length cs))) cs
 unfolding told_width
 no-width met cs left h = sym (ap (λ (f : First). told_width f cs) (none-up-to (takes_all met left) (length met) (length cs) h))

@@ -1,9 +1,8 @@
 -- A search over masks: what a code takes off, and the columns tried, none lower than the one before it.
-use Rattle.std.specs.Prelude.{Bool, true, false, cond, List, [], ◌∷◌, ◌++◌, ℕ, zero, suc, ◌-◌, eqb, length, get_or, drop}
+use Rattle.std.specs.Prelude.{Bool, true, false, cond, List, [], ◌∷◌, ◌++◌, ℕ, zero, suc, ◌-◌, eqb, length, get_or, drop, Option, Some, None}
 use Rattle.rules.specs.Least.{First, first, none}
 use Rattle.rules.proofs.Codes.{tried}
 use Rattle.families.specs.Families.{without}
-use Rattle.code_search.specs.declared.Found.{Found}
 
 -- what is left behind the column v
 abbrev pub behind : List ℕ → ℕ → ℕ → ℕ
@@ -26,6 +25,6 @@ told (first code) came = (true, code)
 told none came = (false, came)
 
 -- its width, and the places of which the first hold it
-unfoldable pub told_width : First → List ℕ → Found × List ℕ
-told_width (first code) came = (Found.Width (length code), code ++ drop (length code) came)
-told_width none came = (Found.Nothing, came)
+unfoldable pub told_width : First → List ℕ → Option ℕ × List ℕ
+told_width (first code) came = (Some (length code), code ++ drop (length code) came)
+told_width none came = (None, came)

@@ -10,7 +10,6 @@ use lib.ListN.{length, get_or, drop, length-drop}
 use borrow.Author.Tests.{lt-ltb, le-ltb, ltb-true, ltb-false, eq-eqb, ne_eqb, eqb-true, eqb-false}
 use Rattle.sets.specs.Sets.{states_from, without_lowest}
 use Rattle.sets.proofs.LowestMember.{without-none}
-use Rattle.rules.specs.Listing.{no_requirement}
 use Rattle.rules.specs.declared.Requirement.{Requirement}
 use Rattle.families.specs.Families.{without, inside, single, joined, requirements_of, requirements_in}
 use Rattle.families.proofs.Family.{family-one, family-more, none-without}
@@ -121,17 +120,6 @@ entered-ahead fs i = enter-within fs (length fs) i (omega arith)
 pub begun-ahead : (fs : List ℕ) → ahead fs (entered fs 0) ≡ requirements_in fs
 begun-ahead fs = entered-ahead fs 0
 
--- ---- where it is over
-
-module _ (fs : List ℕ) (w : Walk) (h : length fs < w.at + 3) where
-  pub here-over : here fs w ≡ no_requirement
-  unfolding here
-  here-over = rw (lt-ltb (length fs) (w.at + 3) h)
-
-  pub next-over : next fs w ≡ w
-  unfolding next
-  next-over = rw (lt-ltb (length fs) (w.at + 3) h)
-
 -- ---- one step
 
 module _ (fs : List ℕ) (w : Walk) (h : w.at + 3 ≤ length fs) where
@@ -187,5 +175,5 @@ module _ (fs : List ℕ) (w : Walk) (h : w.at + 3 ≤ length fs) where
           ∙ ap {B = List Requirement} (λ r. r ∷ (map g (inside (without_lowest w.rest) (states_from 0 64)) ++ others)) (sym (here-more o))
           ∙ ap (λ (rs : List Requirement). here fs w ∷ rs) (sym (next-ahead (eqb (without_lowest w.rest) 0) refl))
 
-  pub ahead-shorter : w.rest < 2 ^ 64 → length (ahead fs (next fs w)) < length (ahead fs w)
-  ahead-shorter fits = omega (arith, ap length (ahead_step fits))
+  pub ahead_behind : {v : Walk} → w.rest < 2 ^ 64 → v ≡ next fs w → ahead fs w ≡ here fs w ∷ ahead fs v
+  ahead_behind fits e = ahead_step fits ∙ ap (λ (u : Walk). here fs w ∷ ahead fs u) (sym e)

@@ -6,6 +6,7 @@ use Rattle.rules.specs.Listing.{no_requirement}
 use Rattle.rules.specs.declared.Requirement.{Requirement}
 use Rattle.families.specs.Families.{without, inside, single, joined, requirements_in}
 use Rattle.code_walking.specs.declared.Walk.{Walk}
+use Rattle.code_walking.specs.declared.Requirements.{Requirements}
 
 -- at the first family of these words that has a requirement; the first word has the place i
 unfoldable pub entered_in : ℕ → List ℕ → Walk
@@ -45,3 +46,8 @@ unfolding entered
 next fs w =
     let rest : ℕ = without_lowest w.rest in
     cond (ltb (length fs) (w.at + 3)) w (cond (eqb rest 0) (entered fs (w.at + 3)) (record { at = w.at; rest = rest }))
+
+-- what an iterator over the requirements has still to yield
+unfoldable pub left : Requirements → List Requirement
+unfolding ahead
+left s = ahead s.families.now s.walk

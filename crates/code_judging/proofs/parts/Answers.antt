@@ -12,7 +12,7 @@ returns-then-b-z-eq0 c =
     let s = c.args in
     sym (ap₂ ◌&&◌ (wholly-zero 64 s.b s.z (omega arith) ∙ eq-eqb _ _ c.if-b-z-eq0.true) (wholly-one 64 s.b s.o (omega arith)))
 
-pub returns : goal.returns
-returns c =
+pub returns-else-b-z-eq0 : goal.returns-else-b-z-eq0
+returns-else-b-z-eq0 c =
     let s = c.args in
-    sym (ap (λ (x : Bool). x && wholly 64 s.b 1 s.o) (wholly-zero 64 s.b s.z (omega arith) ∙ ne_eqb _ _ c.if-b-z-eq0.false))
+    ne_eqb _ _ c.if-b-z-eq0.false ∙ sym (ap (λ (x : Bool). x && wholly 64 s.b 1 s.o) (wholly-zero 64 s.b s.z (omega arith) ∙ ne_eqb _ _ c.if-b-z-eq0.false))

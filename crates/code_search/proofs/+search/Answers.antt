@@ -3,7 +3,7 @@
 use mathlib.Core.Path.{◌≡◌, sym, ap, ◌∙◌}
 use mathlib.Core.List.{List}
 use Prim.Native.Nat.{ℕ}
-use borrow.Fn.PlainCycle.{is}
+use borrow.Author.Tests.{eqb-true, eqb-false}
 use lib.ListN.{length}
 use Rattle.rules.specs.Least.{First}
 use Rattle.code_search.specs.Search.{searched, told}
@@ -13,7 +13,7 @@ use Rattle.code_search.proofs.+search.Goals as goal
 
 -- where the loop stands there is a place
 some-place : (t : ℕ) (c : At-loop-v t) → length c.loop-v.columns ≡ 0 → ⊥
-some-place t c e = c.if-columns-eq0.false (sym (ap length c.loop-v.invariant.0) ∙ e)
+some-place t c e = eqb-false _ 0 (sym c.is_empty.ensures ∙ c.if-is_empty.false) (sym (ap length c.loop-v.invariant.0) ∙ e)
 
 -- what the call of itself came to
 came : (t : ℕ) (c : After-search t)
@@ -31,10 +31,10 @@ from_start t c =
     let a = c.args in
     ap (λ (cs : List ℕ). told (searched a.met.now (length cs) c.loop-v.v a.left) cs) c.loop-v.invariant.0 ∙ ap (λ (f : First). told f a.columns.now) c.loop-v.invariant.1
 
-pub returns-then-columns-eq0 : goal.returns-then-columns-eq0
-returns-then-columns-eq0 t c =
+pub returns-then-is_empty : goal.returns-then-is_empty
+returns-then-is_empty t c =
     let a = c.args in
-    none_left a.met.now a.columns.now a.from a.left c.if-columns-eq0.true
+    none_left a.met.now a.columns.now a.from a.left (eqb-true _ 0 (sym c.is_empty.ensures ∙ c.if-is_empty.true))
 
 pub returns-then-search : goal.returns-then-search
 returns-then-search t c =

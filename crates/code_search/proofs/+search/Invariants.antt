@@ -1,7 +1,6 @@
 -- The proof of the cycle of calls {search}: the measure is the number of places, of which each call has one less. The loop's invariant: the search from here is
 -- the search from the start, and the places are as they came.
 use mathlib.Core.Path.{◌≡◌}
-use Prim.Native.Nat.{◌-◌}
 use lib.ListN.{length}
 use Rattle.code_search.specs.Search.{searched}
 use Rattle.code_search.proofs.+search.Given as goal
@@ -12,6 +11,3 @@ decreases-search l = length l.columns.now
 abbrev pub invariant-loop-v : goal.invariant-loop-v
 invariant-loop-v l =
     (l.columns ≡ l.initial.columns) × (searched l.met (length l.initial.columns) l.v l.left ≡ searched l.met (length l.initial.columns) l.from l.left)
-
-abbrev pub decreases-loop-v : goal.decreases-loop-v
-decreases-loop-v l = length l.met - l.v

@@ -9,20 +9,20 @@ use Rattle.code_least.proofs.table.column_of.Goals as goal
 pub loop-k-init : goal.loop-k-init
 unfolding turned
 loop-k-init c =
-    (omega arith, refl)
+    refl
 
 pub overflow_mul-b : goal.overflow_mul-b
 overflow_mul-b c =
-    omega (arith, turned-fits c.loop-k.k c.args.v (omega (arith, c.loop-k-test.true, c.requires)) c.loop-k.invariant.1)
+    omega (arith, turned-fits c.loop-k.k c.args.v (omega (arith, c.loop-k-test.true, c.requires)) c.loop-k.invariant)
 
 pub overflow_add-b : goal.overflow_add-b
 overflow_add-b c =
-    omega (arith, turned-fits c.loop-k.k c.args.v (omega (arith, c.loop-k-test.true, c.requires)) c.loop-k.invariant.1, has-lt c.args.v c.loop-k.k)
+    omega (arith, turned-fits c.loop-k.k c.args.v (omega (arith, c.loop-k-test.true, c.requires)) c.loop-k.invariant, has-lt c.args.v c.loop-k.k)
 
 pub loop-k-preserved : goal.loop-k-preserved
 loop-k-preserved c =
-    (omega (arith, c.loop-k-test.true), turned_more c.loop-k.k c.args.v c.loop-k.invariant.1)
+    turned_more c.loop-k.k c.args.v c.loop-k.invariant
 
 pub overflow_mul-result : goal.overflow_mul-result
 overflow_mul-result c =
-    omega (arith, turned-fits c.loop-k.k c.args.v (omega (arith, c.loop-k.invariant.0, c.requires)) c.loop-k.invariant.1)
+    omega (arith, turned-fits c.loop-k.k c.args.v (omega (arith, c.requires)) c.loop-k.invariant)

@@ -1,13 +1,8 @@
 -- `code_least::table::column_of` meets its contract: so many digits are turned.
 use mathlib.Core.Path.{◌≡◌}
-use Prim.Native.Nat.{◌≤◌, ◌-◌}
 use Rattle.rules.specs.Least.{turned}
 use Rattle.code_least.proofs.table.column_of.Given as goal
 
 abbrev pub invariant-loop-k : goal.invariant-loop-k
 invariant-loop-k l =
-    (l.k ≤ l.n - 1) × (l.b ≡ turned l.k l.v)
-
-abbrev pub decreases-loop-k : goal.decreases-loop-k
-decreases-loop-k l =
-    l.n - l.k
+    l.b ≡ turned l.k l.v

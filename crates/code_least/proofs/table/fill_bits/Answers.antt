@@ -1,12 +1,10 @@
 -- `code_least::table::fill_bits` meets its contract: the bits of the columns passed stand in the first places.
 use mathlib.Core.Path.{ap, ◌∙◌}
-use native.Mathlib.Omega.{arith}
-use lib.ListN.{set, length-set}
+use lib.ListN.{set}
 use Rattle.rules.specs.Least.{column}
 use Rattle.code_least.proofs.Filling.{filled_more}
 use Rattle.code_least.proofs.table.fill_bits.Goals as goal
 
 pub loop-k-preserved : goal.loop-k-preserved
 loop-k-preserved c =
-    let next = ap (λ b. set b c.loop-k.k c.column_of.result) c.loop-k.invariant.2 ∙ filled_more (column c.args.n) c.args.code.now c.args.bits.now c.requires.1 c.loop-k.k c.loop-k-test.true c.column_of.ensures in
-    (omega (arith, c.loop-k-test.true), length-set c.loop-k.bits c.loop-k.k c.column_of.result ∙ c.loop-k.invariant.1, next)
+    ap (λ b. set b c.loop-k.k c.column_of.result) c.loop-k.invariant ∙ filled_more (column c.args.n) c.args.code.now c.args.bits.now c.requires.1 c.loop-k.k c.loop-k-test.true c.column_of.ensures

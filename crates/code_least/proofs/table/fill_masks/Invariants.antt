@@ -1,6 +1,5 @@
 -- `code_least::table::fill_masks` meets its contract: the masks of the columns passed stand in the first places.
 use mathlib.Core.Path.{◌≡◌}
-use Prim.Native.Nat.{◌≤◌, ◌-◌}
 use lib.ListN.{length}
 use Rattle.sets.specs.Sets.{states_from}
 use Rattle.rules.specs.Least.{column}
@@ -11,8 +10,4 @@ use Rattle.code_least.proofs.table.fill_masks.Given as goal
 
 abbrev pub invariant-loop-v : goal.invariant-loop-v
 invariant-loop-v l =
-    (l.v ≤ length l.initial.met) × (length l.met ≡ length l.initial.met) × (l.met ≡ filled (λ u. mask_from 0 (column l.n u) (requirements_in l.fs)) (states_from 0 (length l.initial.met)) l.initial.met l.v)
-
-abbrev pub decreases-loop-v : goal.decreases-loop-v
-decreases-loop-v l =
-    length l.initial.met - l.v
+    (l.met ≡ filled (λ u. mask_from 0 (column l.n u) (requirements_in l.fs)) (states_from 0 (length l.initial.met)) l.initial.met l.v)
