@@ -129,3 +129,11 @@ module _ (most k : ℕ) (f : List ℕ) where
       go : (t : Bool) → sized most k nought one dash f ≡ t → sized most k nought one dash f ≡ false
       go true e = let q = pattern-good (omega (arith, sized-short most k nought one dash f e)) e in let z : ◌≡◌ {A = ℕ} 0 1 = cc in absurd (omega arith)
       go false e = e
+
+  -- a pattern is what a sized field says, within the limit of one
+  pub pattern-sized : most ≤ 32 → pattern_in most k f ≡ cond (sized most k nought one dash f) (Some (record { ones = set_of one f; dashes = set_of dash f })) None
+  pattern-sized h = go (sized most k nought one dash f) refl
+    where
+      go : (t : Bool) → sized most k nought one dash f ≡ t → pattern_in most k f ≡ cond t (Some (record { ones = set_of one f; dashes = set_of dash f })) None
+      go true e = pattern-good (omega (arith, sized-short most k nought one dash f e)) e
+      go false e = pattern-unfit e
