@@ -1,4 +1,5 @@
 -- The set that a field stands for: character by character from its end, and how large its mask is.
+use Rattle.std.specs.Prelude.{Some, None}
 use mathlib.Core.Path.{◌≡◌, refl, ap, ◌∙◌}
 use mathlib.Core.Bool.{Bool, true, false, ◌&&◌, cond, and-false}
 use mathlib.Core.List.{List, [], ◌∷◌}
@@ -12,7 +13,6 @@ use borrow.Author.Tests.{leb-true, le-leb, lt-leb}
 use Rattle.rules.specs.Text.{nought, one, dash, digit, set_of, all_of, sized}
 use Rattle.rules.specs.declared.Pattern.{Pattern}
 use Rattle.read_fields.specs.Fields.{places_of, places_in, pattern_in}
-use Rattle.read_fields.specs.declared.PatternField.{PatternField}
 use Rattle.read_fields.specs.declared.Places.{Places}
 use Rattle.read_fields.proofs.Characters.{drop-one, all_drop, sized-short}
 
@@ -52,37 +52,40 @@ set-end c l = rw (drop_of_length-le l {i = length l} (omega arith))
 -- ---- a field of three kinds of characters
 
 module _ (a b c : ℕ) (f : List ℕ) where
-  pub places-long : 64 < length f → places_of a b c f ≡ Places.Bad
+  pub places-long : 64 < length f → places_of a b c f ≡ None
   unfolding places_of
   places-long h = rw (lt-leb _ _ h)
 
-  pub places-bad : (i : ℕ) → all_of a b c (drop i f) ≡ false → places_of a b c f ≡ Places.Bad
+  pub places-bad : (i : ℕ) → all_of a b c (drop i f) ≡ false → places_of a b c f ≡ None
   unfolding places_of
   places-bad i e = rw (all_drop a b c f i e, and-false (leb (length f) 64))
 
-  pub places-good : {m n : ℕ} → length f ≤ 64 → all_of a b c f ≡ true → m ≡ set_of b f → n ≡ set_of c f → Places.Read m n ≡ places_of a b c f
+  pub places-good : {m n : ℕ} → length f ≤ 64 → all_of a b c f ≡ true → m ≡ set_of b f → n ≡ set_of c f → Some (record { second = m; third = n }) ≡ places_of a b c f
   unfolding places_of
   places-good h e p q = rw (le-leb _ _ h, e, p, q)
 
   -- a field that is sized, or not, where only a mask's length is let in
   module _ (most k : ℕ) (short : length f ≤ most → length f ≤ 64) where
-    pub places-sized : {t : Bool} → sized most k a b c f ≡ t → places_in most k a b c f ≡ cond t (Places.Read (set_of b f) (set_of c f)) Places.Bad
+    pub places-sized : {t : Bool} → sized most k a b c f ≡ t → places_in most k a b c f ≡ cond t (Some (record { second = set_of b f; third = set_of c f })) None
     unfolding places_in sized places_of
-    places-sized e = go (leb (length f) most) refl (eqb (length f) k) ∙ ap (λ (t : Bool). cond t (Places.Read (set_of b f) (set_of c f)) Places.Bad) e
+    places-sized e = go (leb (length f) most) refl (eqb (length f) k) ∙ ap (λ (t : Bool). cond t (Some (record { second = set_of b f; third = set_of c f })) None) e
       where
-        go : (t : Bool) → leb (length f) most ≡ t → (s : Bool) → cond (t && s) (places_of a b c f) Places.Bad ≡ cond (t && (s && all_of a b c f)) (Places.Read (set_of b f) (set_of c f)) Places.Bad
+        go : (t : Bool) → leb (length f) most ≡ t → (s : Bool) → cond (t && s) (places_of a b c f) None ≡ cond (t && (s && all_of a b c f)) (Some (record { second = set_of b f; third = set_of c f })) None
         go false e s = refl
         go true e false = refl
         go true e true = rw (le-leb (length f) 64 (short (leb-true (length f) most e)))
 
-    pub places-read : {m n : ℕ} → places_in most k a b c f ≡ Places.Read m n → (sized most k a b c f ≡ true) × (m ≡ set_of b f) × (n ≡ set_of c f)
-    places-read {m} {n} r = go (sized most k a b c f) refl
+    pub places-read : {p : Places} → places_in most k a b c f ≡ Some p → (sized most k a b c f ≡ true) × (p.second ≡ set_of b f) × (p.third ≡ set_of c f)
+    places-read {p} r = go (sized most k a b c f) refl
       where
-        go : (t : Bool) → sized most k a b c f ≡ t → (sized most k a b c f ≡ true) × (m ≡ set_of b f) × (n ≡ set_of c f)
-        go true e = let p = places-sized e in (e, cc, cc)
+        go : (t : Bool) → sized most k a b c f ≡ t → (sized most k a b c f ≡ true) × (p.second ≡ set_of b f) × (p.third ≡ set_of c f)
+        go true e =
+            let s = places-sized e in
+            let q : p ≡ record { second = set_of b f; third = set_of c f } = cc in
+            (e, ap (λ (o : Places). o.second) q, ap (λ (o : Places). o.third) q)
         go false e = let p = places-sized e in let z : ◌≡◌ {A = ℕ} 0 1 = cc in absurd (omega arith)
 
-    pub places-none : places_in most k a b c f ≡ Places.Bad → sized most k a b c f ≡ false
+    pub places-none : places_in most k a b c f ≡ None → sized most k a b c f ≡ false
     places-none r = go (sized most k a b c f) refl
       where
         go : (t : Bool) → sized most k a b c f ≡ t → sized most k a b c f ≡ false
@@ -92,27 +95,27 @@ module _ (a b c : ℕ) (f : List ℕ) where
 -- ---- a field of `0 1 -`
 
 module _ (most k : ℕ) (f : List ℕ) where
-  pub pattern-long : 32 < length f → pattern_in most k f ≡ PatternField.Bad
+  pub pattern-long : 32 < length f → pattern_in most k f ≡ None
   unfolding pattern_in
   pattern-long h = rw (lt-leb _ _ h)
 
-  pub pattern-unfit : sized most k nought one dash f ≡ false → pattern_in most k f ≡ PatternField.Bad
+  pub pattern-unfit : sized most k nought one dash f ≡ false → pattern_in most k f ≡ None
   unfolding pattern_in
   pattern-unfit e = rw (e, and-false (leb (length f) 32))
 
-  pattern-good : length f ≤ 32 → sized most k nought one dash f ≡ true → pattern_in most k f ≡ PatternField.Read (record { ones = set_of one f; dashes = set_of dash f })
+  pattern-good : length f ≤ 32 → sized most k nought one dash f ≡ true → pattern_in most k f ≡ Some (record { ones = set_of one f; dashes = set_of dash f })
   unfolding pattern_in
   pattern-good h e = rw (le-leb _ _ h, e)
 
   -- what was read are the pattern's masks, and they fit it
-  pub pattern-told : {m n : ℕ} → length f ≤ 32 → places_in most k nought one dash f ≡ Places.Read m n
-      → (m < 2 ^ 32) × (n < 2 ^ 32) × (pattern_in most k f ≡ PatternField.Read (record { ones = m; dashes = n }))
+  pub pattern-told : {p : Places} → length f ≤ 32 → places_in most k nought one dash f ≡ Some p
+      → (p.second < 2 ^ 32) × (p.third < 2 ^ 32) × (pattern_in most k f ≡ Some (record { ones = p.second; dashes = p.third }))
   pattern-told h e =
       let r = places-read nought one dash f most k (λ l. omega arith) e in
       (rw r.1 (set_below 32 one f h), rw r.2 (set_below 32 dash f h), rw (r.1, r.2) (pattern-good h r.0))
 
   -- the same from the pattern, within the limit of one
-  pub pattern-read : {p : Pattern} → most ≤ 32 → pattern_in most k f ≡ PatternField.Read p
+  pub pattern-read : {p : Pattern} → most ≤ 32 → pattern_in most k f ≡ Some p
       → (sized most k nought one dash f ≡ true) × (p ≡ record { ones = set_of one f; dashes = set_of dash f })
   pattern-read {p} h r = go (sized most k nought one dash f) refl
     where
@@ -120,9 +123,17 @@ module _ (most k : ℕ) (f : List ℕ) where
       go true e = let q = pattern-good (omega (arith, sized-short most k nought one dash f e)) e in (e, cc)
       go false e = let q = pattern-unfit e in let z : ◌≡◌ {A = ℕ} 0 1 = cc in absurd (omega arith)
 
-  pub pattern-none : most ≤ 32 → pattern_in most k f ≡ PatternField.Bad → sized most k nought one dash f ≡ false
+  pub pattern-none : most ≤ 32 → pattern_in most k f ≡ None → sized most k nought one dash f ≡ false
   pattern-none h r = go (sized most k nought one dash f) refl
     where
       go : (t : Bool) → sized most k nought one dash f ≡ t → sized most k nought one dash f ≡ false
       go true e = let q = pattern-good (omega (arith, sized-short most k nought one dash f e)) e in let z : ◌≡◌ {A = ℕ} 0 1 = cc in absurd (omega arith)
       go false e = e
+
+  -- a pattern is what a sized field says, within the limit of one
+  pub pattern-sized : most ≤ 32 → pattern_in most k f ≡ cond (sized most k nought one dash f) (Some (record { ones = set_of one f; dashes = set_of dash f })) None
+  pattern-sized h = go (sized most k nought one dash f) refl
+    where
+      go : (t : Bool) → sized most k nought one dash f ≡ t → pattern_in most k f ≡ cond t (Some (record { ones = set_of one f; dashes = set_of dash f })) None
+      go true e = pattern-good (omega (arith, sized-short most k nought one dash f e)) e
+      go false e = pattern-unfit e

@@ -3,7 +3,7 @@
 
 ghost use Rattle.std.specs.Prelude.{◌≡◌, ◌&&◌, leb, length};
 ghost use Rattle.rules.specs.Text.{fields_of, field_at, numeral_of};
-ghost use Rattle.rules.specs.Lines.{head_numbers, head_numerals, fifth_of, head_line};
+ghost use Rattle.rules.specs.Lines.{head_numbers, fifth_of, head_line};
 
 use read_pieces::{field, field_count};
 use rules::{Head, Refusal};
@@ -12,29 +12,27 @@ use rules::{Head, Refusal};
 fn within(v: usize, most: usize) -> bool
     ensures { result ≡ (leb 1 v && leb v most) }
 {
-    if v < 1 {
-        return false;
-    }
-    v <= most
+    1 <= v && v <= most
 }
 
 // The numbers of a head, each in its range or refused.
-fn head_numbers(moore: bool, n: usize, i: usize, o: usize, w: usize, k: usize) -> Result<Head, Refusal>
+#[tactic(auto, unfolding(rules::specs::Lines::head_numbers))]
+fn head_numbers(
+    moore: bool,
+    n: usize,
+    i: usize,
+    o: usize,
+    w: usize,
+    k: usize,
+) -> Result<Head, Refusal>
     ensures { result ≡ head_numbers moore n i o w k }
 {
-    if !within(n, rules::MOST_STATES) {
-        return Err(Refusal::Limit);
-    }
-    if !within(i, rules::MOST_INPUTS) {
-        return Err(Refusal::Limit);
-    }
-    if !within(o, rules::MOST_OUTPUTS) {
-        return Err(Refusal::Limit);
-    }
-    if rules::MOST_BITS < w {
-        return Err(Refusal::Limit);
-    }
-    if 1 < k {
+    let fits = within(n, rules::MOST_STATES)
+        && within(i, rules::MOST_INPUTS)
+        && within(o, rules::MOST_OUTPUTS)
+        && w <= rules::MOST_BITS
+        && k <= 1;
+    if !fits {
         return Err(Refusal::Limit);
     }
     Ok(Head {
@@ -47,35 +45,6 @@ fn head_numbers(moore: bool, n: usize, i: usize, o: usize, w: usize, k: usize) -
     })
 }
 
-// The fields of a head as numbers.
-fn head_numerals(
-    moore: bool,
-    n: Option<usize>,
-    i: Option<usize>,
-    o: Option<usize>,
-    w: Option<usize>,
-    k: Option<usize>,
-) -> Result<Head, Refusal>
-    ensures { result ≡ head_numerals moore n i o w k }
-{
-    let Some(states) = n else {
-        return Err(Refusal::BadLine);
-    };
-    let Some(inputs) = i else {
-        return Err(Refusal::BadLine);
-    };
-    let Some(outputs) = o else {
-        return Err(Refusal::BadLine);
-    };
-    let Some(width) = w else {
-        return Err(Refusal::BadLine);
-    };
-    let Some(keeps) = k else {
-        return Err(Refusal::BadLine);
-    };
-    head_numbers(moore, states, inputs, outputs, width, keeps)
-}
-
 // What field k of a line says as a number.
 fn number_at(l: &[u8], k: usize) -> Option<usize>
     ensures { result ≡ numeral_of (field_at l.now k) }
@@ -84,6 +53,7 @@ fn number_at(l: &[u8], k: usize) -> Option<usize>
 }
 
 // The fifth number of a line that has `count` fields: 0 where there are four.
+#[tactic(auto, unfolding(rules::specs::Lines::fifth_of))]
 fn fifth_of(l: &[u8], count: usize) -> Option<usize>
     requires { count ≡ length (fields_of l.now) }
     ensures { result ≡ fifth_of l.now }
@@ -94,23 +64,19 @@ fn fifth_of(l: &[u8], count: usize) -> Option<usize>
     number_at(l, 5)
 }
 
-// What an `MC` line says, or an `MO` line, which `moore` tells.
+// What an `MC` line says, or an `MO` line, which `moore` tells: the first field that is no number refuses the line.
+#[tactic(auto, unfolding(rules::specs::Lines::head_line, rules::specs::Lines::head_numerals))]
 pub fn head_line(moore: bool, l: &[u8]) -> Result<Head, Refusal>
     ensures { result ≡ head_line moore l.now }
 {
     let count = field_count(l);
-    if count < 5 {
+    if count < 5 || 6 < count {
         return Err(Refusal::BadLine);
     }
-    if 6 < count {
-        return Err(Refusal::BadLine);
-    }
-    head_numerals(
-        moore,
-        number_at(l, 1),
-        number_at(l, 2),
-        number_at(l, 3),
-        number_at(l, 4),
-        fifth_of(l, count),
-    )
+    let n = number_at(l, 1).ok_or(Refusal::BadLine)?;
+    let i = number_at(l, 2).ok_or(Refusal::BadLine)?;
+    let o = number_at(l, 3).ok_or(Refusal::BadLine)?;
+    let w = number_at(l, 4).ok_or(Refusal::BadLine)?;
+    let k = fifth_of(l, count).ok_or(Refusal::BadLine)?;
+    head_numbers(moore, n, i, o, w, k)
 }

@@ -2,11 +2,12 @@
 ghost use Rattle.std.specs.Prelude.{◌≡◌};
 ghost use Rattle.rules.specs.Lines.{dichotomy_line};
 
-use read_fields::Places;
+use read_fields::places_in;
 use read_pieces::{behind, cut};
 use rules::{Head, Refusal, Requirement};
 
 // What a `DI` line says, behind `count` dichotomies.
+#[tactic(auto, using(crate::proofs::dichotomy::Laws::parts))]
 pub fn dichotomy_line(h: Head, count: usize, l: &[u8]) -> Result<Requirement, Refusal>
     ensures { result ≡ dichotomy_line h count l.now }
 {
@@ -14,21 +15,20 @@ pub fn dichotomy_line(h: Head, count: usize, l: &[u8]) -> Result<Requirement, Re
     if l.len() <= mark {
         return Err(Refusal::BadLine);
     }
-    let Places::Read(first, second) = read_fields::places_in(
+    let blocks = places_in(
         behind(l, mark),
         rules::MOST_STATES,
         h.states,
         b'.',
         b'+',
         b'-',
-    ) else {
-        return Err(Refusal::BadLine);
-    };
+    )
+    .ok_or(Refusal::BadLine)?;
     if rules::MOST_DICHOTOMIES <= count {
         return Err(Refusal::Limit);
     }
     Ok(Requirement {
-        first: first,
-        second: second,
+        first: blocks.second,
+        second: blocks.third,
     })
 }

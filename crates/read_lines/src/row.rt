@@ -6,7 +6,7 @@ ghost use Rattle.read_fields.specs.Fields.{places_in};
 ghost use Rattle.rules.specs.Lines.{row_checked, row_line};
 ghost use Rattle.read_lines.specs.Rows.{row_read, row_end, row_rest};
 
-use read_fields::{PatternField, Places};
+use read_fields::{Places, pattern_in};
 use read_pieces::{behind, cut, first_of, stands_at};
 use rules::{Head, Pattern, Refusal, Row};
 
@@ -27,13 +27,14 @@ fn row_checked(count: usize, row: Row) -> Result<Row, Refusal>
 }
 
 // The states that a field of k characters `0 1` names.
-fn states_in(f: &[u8], k: usize) -> Places
+fn states_in(f: &[u8], k: usize) -> Option<Places>
     ensures { result ≡ places_in most_states k nought one one f.now }
 {
     read_fields::places_in(f, rules::MOST_STATES, k, b'0', b'1', b'1')
 }
 
 // The row of the three fields that every row has, and of outputs that are read already.
+#[tactic(auto, using(crate::proofs::row::Laws::read), unfolding(crate::specs::Rows::row_read, rules::specs::Lines::row_fits))]
 fn row_read(
     h: Head,
     count: usize,
@@ -45,22 +46,15 @@ fn row_read(
 ) -> Result<Row, Refusal>
     ensures { result ≡ row_read h count line input.now group.now next.now outputs }
 {
-    let PatternField::Read(asked) = read_fields::pattern_in(input, rules::MOST_INPUTS, h.inputs)
-    else {
-        return Err(Refusal::BadLine);
-    };
-    let Places::Read(states, _) = states_in(group, h.states) else {
-        return Err(Refusal::BadLine);
-    };
-    let Places::Read(named, _) = states_in(next, h.states) else {
-        return Err(Refusal::BadLine);
-    };
+    let asked = pattern_in(input, rules::MOST_INPUTS, h.inputs).ok_or(Refusal::BadLine)?;
+    let states = states_in(group, h.states).ok_or(Refusal::BadLine)?;
+    let named = states_in(next, h.states).ok_or(Refusal::BadLine)?;
     row_checked(
         count,
         Row {
             input: asked,
-            group: states,
-            next: named,
+            group: states.second,
+            next: named.second,
             outputs: outputs,
             line: line,
         },
@@ -68,19 +62,23 @@ fn row_read(
 }
 
 // What stands behind the group and its space, where the row has outputs: the next state has a space behind it.
-fn row_end(h: Head, count: usize, line: usize, input: &[u8], group: &[u8], v: &[u8]) -> Result<Row, Refusal>
+#[tactic(auto, using(crate::proofs::row::Laws::ended))]
+fn row_end(
+    h: Head,
+    count: usize,
+    line: usize,
+    input: &[u8],
+    group: &[u8],
+    v: &[u8],
+) -> Result<Row, Refusal>
     ensures { result ≡ row_end h count line input.now group.now v.now }
 {
     if !stands_at(v, h.states, b' ') {
         return Err(Refusal::BadLine);
     }
-    let PatternField::Read(outputs) = read_fields::pattern_in(
-        behind(v, h.states),
-        rules::MOST_OUTPUTS,
-        h.outputs,
-    ) else {
-        return Err(Refusal::BadLine);
-    };
+    let outputs = pattern_in(behind(v, h.states), rules::MOST_OUTPUTS, h.outputs).ok_or(
+        Refusal::BadLine,
+    )?;
     row_read(h, count, line, input, group, first_of(v, h.states), outputs)
 }
 

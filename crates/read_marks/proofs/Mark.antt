@@ -23,3 +23,5 @@ same-two [] a b h e = absurd (omega arith)
 same-two (x ∷ []) a b h e = absurd (omega arith)
 same-two (x ∷ (y ∷ (z ∷ xs))) a b h e = absurd (omega arith)
 same-two (x ∷ (y ∷ [])) a b h e = rw (e, and-true (eqb y b))
+
+pub ruleset two_bytes = (same-unlike, same-two)

@@ -10,47 +10,39 @@ use read_pieces::{field, field_count};
 use rules::{Mark, Refusal};
 
 // Whether a field is the mark m.
+#[tactic(auto, using(crate::proofs::Mark::two_bytes))]
 pub fn is_mark(f: &[u8], m: &[u8; 2]) -> bool
     ensures { result ≡ same f.now (two_of m.now) }
 {
-    if f.len() != 2 {
-        return false;
-    }
-    if f[0] != m[0] {
-        return false;
-    }
-    f[1] == m[1]
+    f.len() == 2 && f[0] == m[0] && f[1] == m[1]
 }
 
 // Which mark a field is.
+#[tactic(auto, unfolding(rules::specs::Text::mark_is))]
 fn mark_in(f: &[u8]) -> Mark
     ensures { result ≡ mark_is f.now }
 {
     if is_mark(f, b"MC") {
-        return Mark::Mc;
+        Mark::Mc
+    } else if is_mark(f, b"MO") {
+        Mark::Mo
+    } else if is_mark(f, b"PT") {
+        Mark::Pt
+    } else if is_mark(f, b"DI") {
+        Mark::Di
+    } else if is_mark(f, b"OU") {
+        Mark::Ou
+    } else if is_mark(f, b"FT") {
+        Mark::Ft
+    } else if is_mark(f, b"EN") {
+        Mark::En
+    } else {
+        Mark::Unknown
     }
-    if is_mark(f, b"MO") {
-        return Mark::Mo;
-    }
-    if is_mark(f, b"PT") {
-        return Mark::Pt;
-    }
-    if is_mark(f, b"DI") {
-        return Mark::Di;
-    }
-    if is_mark(f, b"OU") {
-        return Mark::Ou;
-    }
-    if is_mark(f, b"FT") {
-        return Mark::Ft;
-    }
-    if is_mark(f, b"EN") {
-        return Mark::En;
-    }
-    Mark::Unknown
 }
 
 // The mark that leads a line.
+#[tactic(auto, unfolding(rules::specs::Text::mark_of))]
 pub fn mark_of(l: &[u8]) -> Mark
     ensures { result ≡ mark_is (mark_of l.now) }
 {
@@ -58,6 +50,7 @@ pub fn mark_of(l: &[u8]) -> Mark
 }
 
 // Whether the mark m leads a line.
+#[tactic(auto, unfolding(rules::specs::Text::mark_of))]
 pub fn leads(l: &[u8], m: &[u8; 2]) -> bool
     ensures { result ≡ same (mark_of l.now) (two_of m.now) }
 {
@@ -65,11 +58,13 @@ pub fn leads(l: &[u8], m: &[u8; 2]) -> bool
 }
 
 // What an `EN` line says: it is the mark alone.
+#[tactic(auto, unfolding(rules::specs::Lines::end_line))]
 pub fn end_line(l: &[u8]) -> Result<(), Refusal>
     ensures { result ≡ end_line l.now }
 {
-    if field_count(l) != 1 {
-        return Err(Refusal::BadLine);
+    if field_count(l) == 1 {
+        Ok(())
+    } else {
+        Err(Refusal::BadLine)
     }
-    Ok(())
 }

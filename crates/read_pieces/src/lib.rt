@@ -9,14 +9,12 @@ ghost use Rattle.read_pieces.specs.Pieces.{end_of, stands_at};
 pub fn cut(l: &[u8], at: usize, q: u8) -> usize
     ensures { result ≡ end_of q l.now at }
 {
-    let mut i = at;
-    while i < l.len() {
+    for i in at..l.len() {
         if l[i] == q {
             return i;
         }
-        i += 1;
     }
-    i
+    at.max(l.len())
 }
 
 // How many fields a line has: one more than spaces.
@@ -24,12 +22,10 @@ pub fn field_count(l: &[u8]) -> usize
     ensures { result ≡ length (fields_of l.now) }
 {
     let mut n: usize = 1;
-    let mut i = 0;
-    while i < l.len() {
-        if l[i] == b' ' {
+    for &x in l {
+        if x == b' ' {
             n += 1;
         }
-        i += 1;
     }
     n
 }
@@ -40,26 +36,22 @@ pub fn field(l: &[u8], k: usize) -> &[u8]
 {
     let mut at = 0;
     let mut end = cut(l, 0, b' ');
-    let mut left = k;
-    while 0 < left {
+    for _before in 0..k {
         if l.len() <= end {
             return &l[end..];
         }
         at = end + 1;
         end = cut(l, at, b' ');
-        left -= 1;
     }
     &l[at..end]
 }
 
 // Whether byte k of a line is there and is q.
+#[tactic(auto, unfolding(crate::specs::Pieces::stands_at))]
 pub fn stands_at(l: &[u8], k: usize, q: u8) -> bool
     ensures { result ≡ stands_at q k l.now }
 {
-    if l.len() <= k {
-        return false;
-    }
-    l[k] == q
+    k < l.len() && l[k] == q
 }
 
 // The first k bytes of a line; all of them where it has fewer.

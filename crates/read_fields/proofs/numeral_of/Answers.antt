@@ -9,32 +9,32 @@ use Rattle.read_fields.proofs.numeral_of.Goals as goal
 
 -- at a digit
 at-digit : (c : Else-not-is_digit)
-    → NextDigit (get_or c.args.f.now c.loop-i.i 0)
-    c.loop-i.v c.loop-i.i
+    → NextDigit (get_or c.args.f.now c.loop-x.x-index 0)
+    c.loop-x.v c.loop-x.x-index
 at-digit c =
-    let l = c.loop-i in
-    next-digit _ l.v l.i (sym c.is_digit.ensures ∙ c.if-not-is_digit.false) (omega arith) l.invariant.2
+    let l = c.loop-x in
+    next-digit _ l.v l.x-index (sym c.is_digit.ensures ∙ c.if-not-is_digit.false) (omega arith) l.invariant.1
 
 pub returns-then-not-number_shaped : goal.returns-then-not-number_shaped
 returns-then-not-number_shaped c = sym (numeral-shaped _ (sym c.number_shaped.ensures ∙ c.if-not-number_shaped.true))
 
-pub loop-i-init : goal.loop-i-init
-loop-i-init c =
+pub loop-x-init : goal.loop-x-init
+loop-x-init c =
     let s = sym c.number_shaped.ensures ∙ c.if-not-number_shaped.false in
-    (search rules, shaped-short _ s, search rules, sym (numeral-shaped _ s))
+    (shaped-short _ s, search rules, sym (numeral-shaped _ s))
 
 pub returns-then-not-is_digit : goal.returns-then-not-is_digit
 returns-then-not-is_digit c =
-    let l = c.loop-i in
-    sym (digits_step l.v _ l.i (omega arith) (sym c.is_digit.ensures ∙ c.if-not-is_digit.true)) ∙ l.invariant.3
+    let l = c.loop-x in
+    sym (digits_step l.v _ l.x-index (omega arith) (sym c.is_digit.ensures ∙ c.if-not-is_digit.true)) ∙ l.invariant.2
 
-pub loop-i-preserved : goal.loop-i-preserved
-loop-i-preserved c =
-    let l = c.loop-i in
+pub loop-x-preserved : goal.loop-x-preserved
+loop-x-preserved c =
+    let l = c.loop-x in
     let d = sym c.is_digit.ensures ∙ c.if-not-is_digit.false in
-    (search rules, l.invariant.1, (at-digit c).grows, sym (digits_step l.v _ l.i (omega arith) d) ∙ l.invariant.3)
+    (l.invariant.0, (at-digit (goal.at.loop-x-preserved c).Else-not-is_digit).grows, sym (digits_step l.v _ l.x-index (omega arith) d) ∙ l.invariant.2)
 
 pub returns : goal.returns
 returns c =
-    let l = c.loop-i in
-    sym (digits-end l.v _ l.i (omega arith)) ∙ l.invariant.3
+    let l = c.loop-x in
+    sym (digits-end l.v _ l.x-index (omega arith)) ∙ l.invariant.2

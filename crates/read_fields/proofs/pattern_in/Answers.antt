@@ -15,10 +15,10 @@ returns-in_default c =
     sym (pattern-unfit a.most a.k a.f.now e)
 
 pub overflow_cast-result : goal.overflow_cast-result
-overflow_cast-result c = record { fits = (pattern-told _ _ _ (omega arith) (sym c.places_in.ensures ∙ c.in-Read.is)).0 }
+overflow_cast-result c = record { fits = (pattern-told _ _ _ (omega arith) (sym c.places_in.ensures ∙ c.in-Some.is)).0 }
 
 pub overflow_cast-result-2 : goal.overflow_cast-result-2
-overflow_cast-result-2 c = record { fits = (pattern-told _ _ _ (omega arith) (sym c.places_in.ensures ∙ c.in-Read.is)).1 }
+overflow_cast-result-2 c = record { fits = (pattern-told _ _ _ (omega arith) (sym c.places_in.ensures ∙ c.in-Some.is)).1 }
 
 pub returns : goal.returns
-returns c = sym (pattern-told _ _ _ (omega arith) (sym c.places_in.ensures ∙ c.in-Read.is)).2
+returns c = sym (pattern-told _ _ _ (omega arith) (sym c.places_in.ensures ∙ c.in-Some.is)).2

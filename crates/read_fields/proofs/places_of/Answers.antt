@@ -1,6 +1,5 @@
 -- `read_fields::places_of` meets its contract: the characters from i on are in order, and the two masks stand for them.
 use mathlib.Core.Path.{◌≡◌, sym, ◌∙◌}
-use mathlib.Core.Bool.{true}
 use Prim.Native.Nat.{◌-◌}
 use native.Mathlib.Omega.{arith}
 use lib.ListN.{get_or}

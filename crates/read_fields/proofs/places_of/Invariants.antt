@@ -8,6 +8,3 @@ use Rattle.read_fields.proofs.places_of.Given as goal
 
 abbrev pub invariant-loop-i : goal.invariant-loop-i
 invariant-loop-i l = (l.i ≤ length l.f) × (length l.f ≤ 64) × (all_of l.a l.b l.c (drop l.i l.f) ≡ true) × (l.m ≡ set_of l.b (drop l.i l.f)) × (l.n ≡ set_of l.c (drop l.i l.f))
-
-abbrev pub decreases-loop-i : goal.decreases-loop-i
-decreases-loop-i l = l.i

@@ -1,6 +1,6 @@
 -- A `PT` line: what stands behind its mark, its fields at known places or refused, and then the row.
 use Rattle.rules.specs.declared.Refusal.{Refusal}
-use Rattle.std.specs.Prelude.{Result, Err}
+use Rattle.std.specs.Prelude.{Result, Err, Some, None}
 use mathlib.Core.Path.{◌≡◌, refl, ◌∙◌}
 use mathlib.Core.Bool.{Bool, true, false, ◌&&◌, cond}
 use mathlib.Core.List.{List, [], ◌∷◌}
@@ -14,12 +14,10 @@ use Rattle.rules.specs.Limits.{most_states, most_inputs, most_outputs}
 use Rattle.rules.specs.Text.{nought, one, dash, space, split, sized, set_of}
 use Rattle.rules.specs.Lines.{row_fits, outputs_fit, row_of, row_checked, moore_line, mealy_line, row_line}
 use Rattle.rules.specs.declared.Head.{Head}
-use Rattle.rules.specs.declared.Pattern.{Pattern}
 use Rattle.rules.specs.declared.Refusal.TheVariants.{BadLine}
 use Rattle.rules.specs.declared.Row.{Row}
 use Rattle.read_fields.specs.Fields.{places_in}
-use Rattle.read_fields.specs.declared.Places.{Places}
-use Rattle.read_fields.proofs.Sets.{places-read, places-none}
+use Rattle.read_fields.proofs.Sets.{places-sized, pattern-sized}
 use Rattle.read_pieces.specs.Pieces.{stands_at}
 use Rattle.read_pieces.proofs.Laws.{Cut}
 use Rattle.read_lines.specs.Rows.{row_read, pieces_fit, outputs_in, row_pieces, row_rest, row_end}
@@ -27,38 +25,10 @@ use Rattle.read_lines.proofs.Fields.{field-here, field-last}
 
 -- ---- the fields
 
--- the three that each row has are judged one after the other
-fits_each : (h : Head) (input group next : List ℕ) {a b c : Bool}
-    → sized most_inputs h.inputs nought one dash input ≡ a
-    → sized most_states h.states nought one one group ≡ b
-    → sized most_states h.states nought one one next ≡ c
-    → row_fits h input group next ≡ (a && b && c)
-unfolding row_fits
-fits_each h input group next p q r = rw (p, q, r)
-
--- the row that they make with its outputs
-abbrev pub rowWith : ℕ → List ℕ → List ℕ → List ℕ → Pattern → Row
-rowWith line input group next outputs =
-    record { input = record { ones = set_of one input; dashes = set_of dash input }; group = set_of one group; next = set_of one next; outputs = outputs; line = line }
-
--- as they are read, one after the other
-module _ (h : Head) (count line : ℕ) (input group next : List ℕ) (outputs : Pattern) {a b c : Bool}
-    (p : sized most_inputs h.inputs nought one dash input ≡ a)
-    (q : sized most_states h.states nought one one group ≡ b)
-    (r : sized most_states h.states nought one one next ≡ c) where
-  pub read-each : row_read h count line input group next outputs ≡ cond (a && b && c) (row_checked count (rowWith line input group next outputs)) (Err BadLine)
-  unfolding row_read
-  read-each = rw (fits_each h input group next p q r)
-
 -- a group or a next state
-module _ (k : ℕ) (f : List ℕ) where
-  pub set-read : {m n : ℕ} → places_in most_states k nought one one f ≡ Places.Read m n → (sized most_states k nought one one f ≡ true) × (m ≡ set_of one f)
-  set-read e =
-      let r = places-read nought one one f most_states k (λ l. omega arith) e in
-      (r.0, r.1)
-
-  pub set-none : places_in most_states k nought one one f ≡ Places.Bad → sized most_states k nought one one f ≡ false
-  set-none e = places-none nought one one f most_states k (λ l. omega arith) e
+pub states-sized : (k : ℕ) (f : List ℕ)
+    → places_in most_states k nought one one f ≡ cond (sized most_states k nought one one f) (Some (record { second = set_of one f; third = set_of one f })) None
+states-sized k f = places-sized nought one one f most_states k (λ l. omega arith) refl
 
 -- ---- pieces in order
 
@@ -162,7 +132,7 @@ module _ (h : Head) (count line : ℕ) (input group : List ℕ) where
       go false false = refl
 
   module _ (v : List ℕ) where
-    pub end-first : stands_at space h.states v ≡ false → row_end h count line input group v ≡ Err BadLine
+    end-first : stands_at space h.states v ≡ false → row_end h count line input group v ≡ Err BadLine
     unfolding row_end
     end-first e = at_next v ∙ rw e
 
@@ -172,6 +142,24 @@ module _ (h : Head) (count line : ℕ) (input group : List ℕ) where
         ≡ cond b (row_read h count line input group next (record { ones = set_of one outputs; dashes = set_of dash outputs })) (Err BadLine)
     unfolding row_end
     end-fields {next} {outputs} e n o f = at_next v ∙ rw (e, ← n, ← o) (at-outputs next outputs ∙ four-fields next outputs f)
+
+pub end-parts : (h : Head) (count line : ℕ) (input group v : List ℕ)
+    → row_end h count line input group v
+    ≡ cond (stands_at space h.states v)
+    (cond (sized most_outputs h.outputs nought one dash (drop (h.states + 1) v))
+    (row_read h count line input group (take h.states v) (record { ones = set_of one (drop (h.states + 1) v); dashes = set_of dash (drop (h.states + 1) v) }))
+    (Err BadLine))
+    (Err BadLine)
+end-parts h count line input group v = go (stands_at space h.states v) refl
+  where
+    o : List ℕ
+    o = drop (h.states + 1) v
+
+    go : (b : Bool) → stands_at space h.states v ≡ b
+        → row_end h count line input group v
+        ≡ cond b (cond (sized most_outputs h.outputs nought one dash o) (row_read h count line input group (take h.states v) (record { ones = set_of one o; dashes = set_of dash o })) (Err BadLine)) (Err BadLine)
+    go true e = end-fields h count line input group v e refl refl refl
+    go false e = end-first h count line input group v e
 
 -- where it has none
 module _ (h : Head) (count line : ℕ) (input group : List ℕ) where
@@ -241,3 +229,7 @@ few-next s e = lt-leb 2 s (omega (arith, leb-true s 1 e))
 
 pub many-next : (s : ℕ) → leb s 1 ≡ false → leb 2 s ≡ true
 many-next s e = le-leb 2 s (leb-false s 1 e)
+
+pub ruleset read = (pattern-sized, states-sized)
+
+pub ruleset ended = (pattern-sized, end-parts)

@@ -17,4 +17,5 @@ loop-i-preserved c =
 pub returns : goal.returns
 returns c =
     let l = c.loop-i in
-    sym (end-past _ _ l.i (omega arith)) ∙ l.invariant
+    let a = c.args in
+    grind (arith, sym (end-past _ _ l.i (omega arith)) ∙ l.invariant, end-past a.q a.l.now a.at, l.auto.i-end, c.max.ensures)
