@@ -1,41 +1,17 @@
 -- An input vector is taken exactly when one mask is empty.
 use mathlib.Core.Path.{◌≡◌, refl, sym, ◌∙◌}
-use mathlib.Core.Bool.{Bool, true, false, ◌||◌, or-true}
-use Prim.Native.Nat.{ℕ, zero, suc, ◌+◌, ◌-◌, ◌%◌, ◌^◌, ◌≤◌, ◌<◌, min}
+use mathlib.Core.Bool.{Bool, true, false, or-true}
+use Prim.Native.Nat.{ℕ, ◌-◌, ◌^◌, ◌≤◌, ◌<◌, min}
 use native.Mathlib.Omega.{arith}
 use lib.Dec.{eqb, ltb}
 use lib.Bits.{bit_and, bit_xor}
 use borrow.Author.Tests.{ltb-true, ltb-false}
 use Rattle.sets.specs.Sets.{has, every, everyone}
 use Rattle.sets.proofs.Every.{every-at, at_every, every-same}
-use Rattle.sets.proofs.Members.{has-lt, has-and, has-xor, has-not, has-high}
+use Rattle.sets.proofs.Members.{has-high}
 use Rattle.rules.specs.declared.Pattern.{Pattern}
-use Rattle.sharing.proofs.Inputs.{none-low}
+use Rattle.sharing.proofs.Inputs.{none-low, unlike-vector}
 use Rattle.run_inputs.specs.Inputs.{takes_input}
-
--- one input: the digits d of the dashes, o of the ones, p of the vector
-one_way : (d o p : ℕ) → d < 2 → o < 2 → p < 2 → eqb (min ((o + p) % 2) (1 - d)) 0 ≡ (eqb d 1 || eqb o p)
-one_way zero zero zero a b c = refl
-one_way zero zero (suc zero) a b c = refl
-one_way zero (suc zero) zero a b c = refl
-one_way zero (suc zero) (suc zero) a b c = refl
-one_way (suc zero) zero zero a b c = refl
-one_way (suc zero) zero (suc zero) a b c = refl
-one_way (suc zero) (suc zero) zero a b c = refl
-one_way (suc zero) (suc zero) (suc zero) a b c = refl
-one_way (suc (suc d)) o p a b c = absurd (omega arith)
-one_way zero (suc (suc o)) p a b c = absurd (omega arith)
-one_way (suc zero) (suc (suc o)) p a b c = absurd (omega arith)
-one_way zero zero (suc (suc p)) a b c = absurd (omega arith)
-one_way zero (suc zero) (suc (suc p)) a b c = absurd (omega arith)
-one_way (suc zero) zero (suc (suc p)) a b c = absurd (omega arith)
-one_way (suc zero) (suc zero) (suc (suc p)) a b c = absurd (omega arith)
-
--- digit s of the machine's mask
-unlike : (d o x s : ℕ) → d < 2 ^ 64 → s < 64 → eqb (has (bit_and (bit_xor o x) ((2 ^ 64 - 1) - d)) s) 0 ≡ (eqb (has d s) 1 || eqb (has o s) (has x s))
-unlike d o x s hd hs =
-    rw (has-and (bit_xor o x) ((2 ^ 64 - 1) - d) s, has-not 64 d s hd hs, has-xor o x s)
-    (one_way (has d s) (has o s) (has x s) (has-lt d s) (has-lt o s) (has-lt x s))
 
 -- past the masks' width nothing is asked
 pub every-least : (n w : ℕ) (p : ℕ → Bool) → ((j : ℕ) → w ≤ j → p j ≡ true) → every (min n w) p ≡ every n p
@@ -62,5 +38,5 @@ unfolding takes_input
 taken-mask n p x ho hd hx e =
     rw e
     (none-low (min n 64) (bit_and (bit_xor p.ones x) ((2 ^ 64 - 1) - p.dashes))
-    ∙ every-same (min n 64) _ _ (λ s h. unlike p.dashes p.ones x s hd (omega arith))
+    ∙ every-same (min n 64) _ _ (λ s h. unlike-vector 64 p.dashes p.ones x s hd (omega arith))
     ∙ every-least n 64 _ (λ j h. rw (has-high 64 p.ones j ho h, has-high 64 x j hx h) (or-true (eqb (has p.dashes j) 1))))

@@ -9,10 +9,7 @@ ghost use Rattle.sets.specs.Sets.{has, flip, everyone, size, without_lowest};
 pub fn member(m: u64, s: usize) -> bool
     ensures { result ≡ eqb (has m s) 1 }
 {
-    if 64 <= s {
-        return false;
-    }
-    (m >> s) % 2 == 1
+    s < 64 && (m >> s) % 2 == 1
 }
 
 // m with state s flipped; a number past the mask's width changes nothing.
@@ -29,7 +26,7 @@ pub fn flipped(m: u64, s: usize) -> u64
 pub fn size_of(m: u64) -> u32
     ensures { result ≡ size m }
 {
-    u64::count_ones(m)
+    m.count_ones()
 }
 
 // Whether m has at most one member.
@@ -43,7 +40,7 @@ pub fn few(m: u64) -> bool
 pub fn lowest(m: u64) -> usize
     ensures { result ≡ count_trailing_zeros 64 m }
 {
-    u64::trailing_zeros(m) as usize
+    m.trailing_zeros() as usize
 }
 
 // m without its lowest member; the empty set stays as it is.
@@ -63,15 +60,12 @@ pub fn everyone_of(n: usize) -> u64
     if n < 64 {
         return (1 << n) - 1;
     }
-    18446744073709551615
+    u64::MAX
 }
 
 // The lesser of two numbers.
 pub fn least(a: usize, b: usize) -> usize
     ensures { result ≡ min a b }
 {
-    if a < b {
-        return a;
-    }
-    b
+    a.min(b)
 }

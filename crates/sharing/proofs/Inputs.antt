@@ -78,6 +78,11 @@ unlike w d e o p s hd he hs =
     let b : has ((2 ^ w - 1) - bit_or d e) s ≡ 1 - has (bit_or d e) s = has-not w (bit_or d e) s (or_lt w d e hd he) hs in
     rw (a, b, has-xor o p s, has-or d e s) (one_way (has d s) (has e s) (has o s) (has p s) (has-lt d s) (has-lt e s) (has-lt o s) (has-lt p s))
 
+-- the same of one row and a vector, which has no dashes
+pub unlike-vector : (w d o x s : ℕ) → d < 2 ^ w → s < w → eqb (has (bit_and (bit_xor o x) ((2 ^ w - 1) - d)) s) 0 ≡ (eqb (has d s) 1 || eqb (has o s) (has x s))
+unlike-vector w d o x s hd hs =
+    unlike w 0 d o x s (pow_pos w) hd hs ∙ ap (λ (k : ℕ). eqb k 1 || (eqb (has d s) 1 || eqb (has o s) (has x s))) (has-none s)
+
 -- ---- all inputs
 
 pub share-mask : (a b : Row) → a.input.dashes < 2 ^ 32 → b.input.dashes < 2 ^ 32

@@ -6,24 +6,18 @@ ghost use Rattle.rules.specs.Listing.{share_input, meets};
 
 use rules::Row;
 
-// The 16 digits of a pattern that are inputs.
-const INPUTS: u32 = 65535;
-
 // Whether two rows share an input vector: at no input does one say 0 and the other 1.
 fn share_input(a: Row, b: Row) -> bool
     ensures { result ≡ share_input a b }
 {
     let unlike = a.input.ones ^ b.input.ones;
     let free = a.input.dashes | b.input.dashes;
-    unlike & !free & INPUTS == 0
+    unlike & !free & rules::EVERY_INPUT == 0
 }
 
 // Whether two rows share an input vector and a state.
 pub fn meet(a: Row, b: Row) -> bool
     ensures { result ≡ meets a b }
 {
-    if !share_input(a, b) {
-        return false;
-    }
-    a.group & b.group != 0
+    share_input(a, b) && a.group & b.group != 0
 }

@@ -28,23 +28,14 @@ pub fn begin(from: usize) -> Part
 fn is_room(len: usize, given: usize, more: usize) -> bool
     ensures { result ≡ fits len given more }
 {
-    if len < given {
-        return false;
-    }
-    more <= len - given
+    given <= len && more <= len - given
 }
 
 // Whether a text of that many bytes at the most goes straight behind those given, into a buffer of that length: so its writer needs no buffer of its own.
 pub fn is_open(part: Part, len: usize, most: usize) -> bool
     ensures { result ≡ open_for most len part }
 {
-    if part.full {
-        return false;
-    }
-    if part.skip != 0 {
-        return false;
-    }
-    is_room(len, part.given, most)
+    !part.full && part.skip == 0 && is_room(len, part.given, most)
 }
 
 // The part with one line more: passed over, put down, or, where it does not fit, left out with all that follow.

@@ -2,41 +2,28 @@
 // so a run on a small buffer tells the length. A place past the last that a number can say is the last one.
 #![tactic(auto)]
 
-ghost use Rattle.std.specs.Prelude.{◌≡◌, [], ◌∷◌, ◌++◌, ◌+◌, min};
+ghost use Rattle.std.specs.Prelude.{◌≡◌, [], ◌∷◌, ◌++◌, ◌+◌};
 ghost use Rattle.sets.specs.Sets.{has};
 ghost use Rattle.rules.specs.Text.{nought, decimal};
-ghost use Rattle.write_pen.specs.Pen.{last_place, Wrote, digits_text, value_at, values_text};
-
-// The place behind `at`.
-fn behind(at: usize) -> usize
-    ensures { result ≡ min (at + 1) last_place }
-{
-    if at < 18446744073709551615 {
-        return at + 1;
-    }
-    at
-}
+ghost use Rattle.write_pen.specs.Pen.{Wrote, digits_text, value_at, values_text};
 
 pub fn put_byte(out: &mut [u8], at: usize, b: u8) -> usize
     ensures { Wrote out.old at (b ∷ []) result out.new }
 {
-    if out.len() <= at {
-        return behind(at);
+    if at < out.len() {
+        out[at] = b;
     }
-    out[at] = b;
-    behind(at)
+    at.saturating_add(1)
 }
 
 pub fn put_bytes(out: &mut [u8], at: usize, s: &[u8]) -> usize
     ensures { Wrote out.old at s.now result out.new }
 {
-    let mut i: usize = 0;
-    let mut to = at;
-    while i < s.len() {
-        to = put_byte(out, to, s[i]);
-        i += 1;
+    if at <= out.len() {
+        let n = s.len().min(out.len() - at);
+        out[at..at + n].copy_from_slice(&s[..n]);
     }
-    to
+    at.saturating_add(s.len())
 }
 
 // A number in decimal: the digits before the last, and the last.
@@ -62,21 +49,16 @@ pub fn put_field(out: &mut [u8], at: usize, v: u64, end: u8) -> usize
 pub fn digit_byte(m: u64, s: usize) -> u8
     ensures { result ≡ nought + has m s }
 {
-    if sets::member(m, s) {
-        return b'1';
-    }
-    b'0'
+    if sets::member(m, s) { b'1' } else { b'0' }
 }
 
 // The lowest n digits of m as characters, the lowest first.
 pub fn put_digits(out: &mut [u8], at: usize, m: u64, n: usize) -> usize
     ensures { Wrote out.old at (digits_text m n) result out.new }
 {
-    let mut i: usize = 0;
     let mut to = at;
-    while i < n {
+    for i in 0..n {
         to = put_byte(out, to, digit_byte(m, i));
-        i += 1;
     }
     to
 }
@@ -86,23 +68,21 @@ fn value_byte(g: u64, b: u64, mixed: u8) -> u8
     ensures { result ≡ value_at g mixed b }
 {
     if b & g == 0 {
-        return b'0';
+        b'0'
+    } else if b & g == g {
+        b'1'
+    } else {
+        mixed
     }
-    if b & g == g {
-        return b'1';
-    }
-    mixed
 }
 
 // A set's value in each bit.
 pub fn put_values(out: &mut [u8], at: usize, bits: &[u64], g: u64, mixed: u8) -> usize
     ensures { Wrote out.old at (values_text bits.now g mixed) result out.new }
 {
-    let mut k: usize = 0;
     let mut to = at;
-    while k < bits.len() {
-        to = put_byte(out, to, value_byte(g, bits[k], mixed));
-        k += 1;
+    for &b in bits {
+        to = put_byte(out, to, value_byte(g, b, mixed));
     }
     to
 }

@@ -16,10 +16,11 @@ left-fits len given more h = go (leb more (len - given)) refl
     go true e = e ∙ sym (le-leb (given + more) len (omega (arith, leb-true more (len - given) e)))
     go false e = e ∙ sym (lt-leb (given + more) len (omega (arith, leb-false more (len - given) e)))
 
-pub returns-then-len-given : goal.returns-then-len-given
+pub returns-then-given-len : goal.returns-then-given-len
 unfolding fits
-returns-then-len-given c = sym (lt-leb (c.args.given + c.args.more) c.args.len (omega arith))
+returns-then-given-len c = left-fits c.args.len c.args.given c.args.more (omega arith)
 
-pub returns : goal.returns
+pub returns-else-given-len : goal.returns-else-given-len
 unfolding fits
-returns c = left-fits c.args.len c.args.given c.args.more (omega arith)
+returns-else-given-len c =
+    lt-leb c.args.given c.args.len (omega arith) ∙ sym (lt-leb (c.args.given + c.args.more) c.args.len (omega arith))

@@ -1,15 +1,19 @@
--- `write_pen::put_bytes` meets its contract. The loop's invariant: what is written is the first i bytes.
-use mathlib.Core.Path.{sym}
+-- `write_pen::put_bytes` meets its contract: what has room is stored in one piece, and the rest is lost.
+use mathlib.Core.Path.{◌∙◌, sym}
 use native.Mathlib.Omega.{arith}
-use borrow.Author.Rules.{rules}
-use Rattle.write_pen.proofs.Laws.{wrote_none, wrote_then, wrote_as}
-use Rattle.write_pen.proofs.Growing.{take-one}
+use Rattle.write_pen.proofs.Laws.{put-piece, put-lost}
+use Rattle.write_pen.proofs.put_bytes.Goals.{then-at-out, else-at-out}
 use Rattle.write_pen.proofs.put_bytes.Goals as goal
 
-pub loop-i-init : goal.loop-i-init
-loop-i-init c = (search rules, wrote_none _ _ (omega arith) (omega arith))
-
-pub loop-i-preserved : goal.loop-i-preserved
-loop-i-preserved c =
-    let l = c.loop-i in
-    (search rules, wrote_as (wrote_then l.invariant.1 c.put_byte-to.ensures) (sym (take-one _ l.i 0 (omega arith))))
+pub returns : goal.returns
+returns c =
+    let a = c.args in
+    let e = c.saturating_add.ensures in
+    elim c.if-at-out.branch [
+      | then-at-out w ↦ record {
+        ends = e;
+        holds = w.out-is ∙ put-piece a.out.now a.at a.s.now (omega arith) w.min-n.ensures (omega arith) (omega arith) w.copy_from_slice.ensures.after;
+        within = omega arith;
+      }
+      | else-at-out w ↦ record { ends = e; holds = w.out-is ∙ sym (put-lost a.out.now a.at a.s.now (omega arith)); within = omega arith }
+    ]

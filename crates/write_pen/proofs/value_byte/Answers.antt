@@ -8,5 +8,5 @@ returns-then-b-g-eq0 c = value-nought _ _ _ c.if-b-g-eq0.true
 pub returns-then-b-g : goal.returns-then-b-g
 returns-then-b-g c = value-one _ _ _ c.if-b-g-eq0.false c.if-b-g.true
 
-pub returns : goal.returns
-returns c = value-mixed _ _ _ c.if-b-g-eq0.false c.if-b-g.false
+pub returns-else-b-g : goal.returns-else-b-g
+returns-else-b-g c = value-mixed _ _ _ c.if-b-g-eq0.false c.if-b-g.false
