@@ -23,7 +23,7 @@ use Rattle.families.specs.Families.{requirements_in}
 use Rattle.move_pairs.specs.Pairs.{live_pairs}
 use Rattle.bit_live.specs.Live.{live_in}
 use Rattle.bit_live.proofs.Next.{Within}
-use Rattle.code_encoding.specs.Encode.{encoded_as}
+use Rattle.code_encoding.specs.Encode.{encoding_of, encoded_as}
 use Rattle.code_drawing.specs.Drawing.{families_of}
 use Rattle.code_drawing.proofs.Requirements.{families-are}
 use Rattle.code_drawing.proofs.Within.{families-within}
@@ -89,7 +89,7 @@ module _ (n width : ℕ) (rs : List Requirement) (m : ℕ) (em : m ≡ cond (eqb
 
 module _ (t : Listing) (f : fair t ≡ true) where
   pub encoded-for : encoded_for t.head.states t.head.width (requirements t) ≡ encoded_as t (coding t)
-  unfolding encoded_for encoded_as coding unmet
+  unfolding encoded_for encoded_as encoding_of coding unmet
   encoded-for = go (eqb t.head.width 0 && not (eqb (length (unmet t c.bits)) 0))
     where
       c : Code

@@ -21,7 +21,7 @@ use Rattle.rules.proofs.Good.{AllGood}
 use Rattle.code_fair.specs.Fair.{fair}
 use Rattle.code_fair.proofs.Limits.{fair-grants}
 use Rattle.families.specs.Families.{requirements_in}
-use Rattle.code_encoding.specs.Encode.{encoded_as}
+use Rattle.code_encoding.specs.Encode.{encoding_of}
 use Rattle.code_drawing.specs.Drawing.{first_families, all_families}
 use Rattle.code_drawing.proofs.Requirements.{first-are, all_are}
 use Rattle.code_judging.specs.Judging.{judgement_at, judged, some_unmet, any_unmet}
@@ -34,20 +34,20 @@ at-number n bits (r ∷ rs) zero h = refl
 at-number n bits (r ∷ rs) (suc k) h = at-number n bits rs k (omega arith)
 
 module _ (t : Listing) (f : fair t ≡ true) (good : AllGood t.head.states (requirements t)) (c : Code) (r : RequirementNumber) where
-  judged-at : judgement_at 64 (take (length c.bits) (encoded_as t (coded c)).bits) (requirements_in (all_families t)) r.0 ≡ judgement_at t.head.states c.bits (requirements t) r.0
-  unfolding encoded_as
+  judged-at : judgement_at 64 (take (length c.bits) (encoding_of t c).bits) (requirements_in (all_families t)) r.0 ≡ judgement_at t.head.states c.bits (requirements t) r.0
+  unfolding encoding_of
   judged-at =
       ap₂ (λ (bs : List ℕ) (rs : List Requirement). judgement_at 64 bs rs r.0) (take-append_seam c.bits (replicate (most_bits - length c.bits) 0)) (all_are t f)
       ∙ at_wide t.head.states (omega (arith, (fair-grants t f).limits.few-states)) c.bits (requirements t) r.0 good
 
   -- a requirement of the listing
-  pub judged-is : r.0 < length (requirements t) → judged t (encoded_as t (coded c)) r ≡ judgement t.head.states c.bits (get_or (requirements t) r.0 no_requirement)
-  unfolding judged encoded_as
+  pub judged-is : r.0 < length (requirements t) → judged t (encoding_of t c) r ≡ judgement t.head.states c.bits (get_or (requirements t) r.0 no_requirement)
+  unfolding judged encoding_of
   judged-is h = rw (lt-ltb r.0 (length (requirements t)) h) (judged-at ∙ at-number t.head.states c.bits (requirements t) r.0 h)
 
   -- beyond them there is none to meet
-  pub judged-beyond : length (requirements t) ≤ r.0 → judged t (encoded_as t (coded c)) r ≡ None
-  unfolding judged encoded_as
+  pub judged-beyond : length (requirements t) ≤ r.0 → judged t (encoding_of t c) r ≡ None
+  unfolding judged encoding_of
   judged-beyond h = rw (le-ltb r.0 (length (requirements t)) h)
 
 -- ---- the pairs and the groups, as a cover asks of them

@@ -28,7 +28,7 @@ use Rattle.code_fair.proofs.Limits.{fair-grants}
 use Rattle.code_fair.proofs.FairListings.{few-requirements, good-requirements}
 use Rattle.code_drawing.specs.Drawing.{all_families}
 use Rattle.code_drawing.proofs.Requirements.{all_are}
-use Rattle.code_encoding.specs.Encode.{encoded_as}
+use Rattle.code_encoding.specs.Encode.{encoding_of, encoded_as}
 use Rattle.code_least.specs.Drawn.{Drawn}
 use Rattle.code_least.specs.Encode.{coded_as, Within, found_as, answer_of, small_encoded, least_encoded}
 use Rattle.rules.specs.Refusals.{refused}
@@ -45,7 +45,7 @@ drop-replicate zero w v = let e : w ≡ w - 0 = omega arith in ap (λ (j : ℕ).
 drop-replicate (suc k) zero v = let e : 0 ≡ 0 - suc k = omega arith in ap (λ (j : ℕ). replicate j v) e
 drop-replicate (suc k) (suc w) v = let e : w - k ≡ suc w - suc k = omega arith in drop-replicate k w v ∙ ap (λ (j : ℕ). replicate j v) e
 
-pub coded-is : (n asked : ℕ) (code bits : List ℕ) → bits ≡ bits_for n code ++ drop (length code) (replicate most_bits 0) → ◌≡◌ {A = Encoding} Ok (record {
+pub coded-is : (n asked : ℕ) (code bits : List ℕ) → bits ≡ bits_for n code ++ drop (length code) (replicate most_bits 0) → ◌≡◌ {A = Encoding} (record {
   width = length code;
   bits = bits;
   asked = asked;
@@ -55,7 +55,7 @@ pub coded-is : (n asked : ℕ) (code bits : List ℕ) → bits ≡ bits_for n co
 }) (coded_as n asked code)
 unfolding coded_as
 coded-is n asked code bits e =
-    ap (λ (b : List ℕ). Ok (record { width = length code; bits = b; asked = asked; unmet = 0; passes = 0; looks = 0 }))
+    ap (λ (b : List ℕ). record { width = length code; bits = b; asked = asked; unmet = 0; passes = 0; looks = 0 })
     (e ∙ ap (λ (l : List ℕ). bits_for n code ++ l) (drop-replicate (length code) most_bits 0) ∙ ap (λ (k : ℕ). bits_for n code ++ replicate (most_bits - k) 0) (sym (length-map code (column n))))
 
 -- ---- what a search told
@@ -64,7 +64,7 @@ coded-is n asked code bits e =
 pub width-within : (f : Option ℕ) (w : ℕ) (l : List ℕ) → f ≡ Some w → Within f l → (w ≤ length l) × (w ≤ most_bits)
 width-within f w l e h = rw e at h
 
-pub width-as : (n asked : ℕ) (f : Option ℕ) (w : ℕ) (l : List ℕ) → f ≡ Some w → coded_as n asked (take w l) ≡ found_as n asked f l
+pub width-as : (n asked : ℕ) (f : Option ℕ) (w : ℕ) (l : List ℕ) → f ≡ Some w → Ok (coded_as n asked (take w l)) ≡ found_as n asked f l
 unfolding found_as
 width-as n asked f w l e = sym (ap (λ (g : Option ℕ). found_as n asked g l) e)
 
@@ -89,7 +89,7 @@ module _ (n : ℕ) (rs : List Requirement) (came : List ℕ) (five : length came
   told-answer asked = ap (λ (p : Option ℕ × List ℕ). found_as n asked p.0 p.1) e ∙ go (least n rs)
     where
       go : (x : First) → found_as n asked (told_width x came).0 (told_width x came).1 ≡ answer_of n asked x
-      go (first code) = ap (coded_as n asked) (take-append_seam code (drop (length code) came))
+      go (first code) = ap (λ (l : List ℕ). Ok (coded_as n asked l)) (take-append_seam code (drop (length code) came))
       go none = refl
 
 -- ---- which machines are small
@@ -115,7 +115,7 @@ module _ (n : ℕ) (rs : List Requirement) where
 
 module _ (t : Listing) where
   by_first : (f : First) → least t.head.states (requirements t) ≡ f → answer_of t.head.states (length (requirements t)) f ≡ encoded_as t (coded_by t.head.states f)
-  unfolding answer_of coded_as encoded_as coded_by unmet
+  unfolding answer_of coded_as encoded_as encoding_of coded_by unmet
   by_first (first code) e =
       let none-unmet = meets-all t.head.states (requirements t) code (least-code t.head.states (requirements t) code e).has in
       let w : length code ≡ length (bits_for t.head.states code) = sym (length-map code (column t.head.states)) in

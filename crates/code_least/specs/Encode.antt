@@ -13,21 +13,21 @@ use Rattle.rules.specs.Refusals.{refused}
 use Rattle.rules.specs.declared.Refused.{Refused}
 
 -- the code of n states with these columns, which leaves nothing of what is asked unmet
-unfoldable pub coded_as : ℕ → ℕ → List ℕ → Result Encoding Refused
+unfoldable pub coded_as : ℕ → ℕ → List ℕ → Encoding
 unfolding turned
-coded_as n asked code = Ok (record {
+coded_as n asked code = record {
   width = length code;
   bits = padded most_bits 0 (bits_for n code);
   asked = asked;
   unmet = 0;
   passes = 0;
   looks = 0;
-})
+}
 
 -- what a search found in the first of some places
 unfoldable pub found_as : ℕ → ℕ → Option ℕ → List ℕ → Result Encoding Refused
 unfolding coded_as
-found_as n asked (Some w) places = coded_as n asked (take w places)
+found_as n asked (Some w) places = Ok (coded_as n asked (take w places))
 found_as n asked None places = refused NoShortCode 0
 
 -- the places are there
@@ -37,7 +37,7 @@ Within None places = Unit {0}
 
 unfoldable pub answer_of : ℕ → ℕ → First → Result Encoding Refused
 unfolding coded_as
-answer_of n asked (first code) = coded_as n asked code
+answer_of n asked (first code) = Ok (coded_as n asked code)
 answer_of n asked none = refused NoShortCode 0
 
 -- of n states and some requirements

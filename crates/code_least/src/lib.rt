@@ -11,7 +11,7 @@ ghost use Rattle.code_search.specs.Search.{told_width};
 ghost use Rattle.code_least.specs.Drawn.{Drawn, Small};
 ghost use Rattle.code_least.specs.Encode.{coded_as, Within, found_as, answer_of, small_encoded, least_encoded};
 
-use rules::{Encoding, Refusal};
+use rules::{Encoding, Refusal, Refused};
 
 // The columns of the most states that a small machine has.
 const COLUMNS: usize = 32;
@@ -24,7 +24,6 @@ fn coded_as(n: usize, asked: usize, code: &[usize]) -> Encoding
     let mut bits = [0u64; rules::MOST_BITS];
     table::fill_bits(n, code, &mut bits);
     Encoding {
-        verdict: rules::Verdict::Accepted,
         width: code.len(),
         bits,
         asked,
@@ -35,12 +34,12 @@ fn coded_as(n: usize, asked: usize, code: &[usize]) -> Encoding
 }
 
 // The answer for what a search found in the first of these places.
-fn found_as(n: usize, asked: usize, found: Option<usize>, code: &[usize]) -> Encoding
+fn found_as(n: usize, asked: usize, found: Option<usize>, code: &[usize]) -> Result<Encoding, Refused>
     requires { (n ≤ most_states) × Within found code.now }
     ensures { result ≡ found_as n asked found code.now }
 {
     match found {
-        Some(w) => coded_as(n, asked, &code[..w]),
+        Some(w) => Ok(coded_as(n, asked, &code[..w])),
         None => code_encoding::uncoded_as(Refusal::NoShortCode),
     }
 }
@@ -66,7 +65,7 @@ fn search_code(n: usize, asked: usize, fs: &[u64], code: &mut [usize]) -> Option
 }
 
 // The least code of a small machine.
-fn least_of(n: usize, asked: usize, fs: &[u64]) -> Encoding
+fn least_of(n: usize, asked: usize, fs: &[u64]) -> Result<Encoding, Refused>
     requires { Small n asked fs.now }
     ensures { result ≡ answer_of n asked (least n (requirements_in fs.now)) }
 {
@@ -76,7 +75,7 @@ fn least_of(n: usize, asked: usize, fs: &[u64]) -> Encoding
 }
 
 // The least code of n states and of the families in fs; more states, or more requirements, than a small machine has are refused 2.
-fn encode_small(n: usize, fs: &[u64]) -> Encoding
+fn encode_small(n: usize, fs: &[u64]) -> Result<Encoding, Refused>
     requires { Drawn n fs.now }
     ensures { result ≡ small_encoded n (requirements_in fs.now) }
 {
@@ -91,7 +90,7 @@ fn encode_small(n: usize, fs: &[u64]) -> Encoding
 }
 
 // The least code of any listing; one that is not within 01's limits, as no reader gives, is refused 2.
-pub fn encode_least(t: rules::Listing) -> Encoding
+pub fn encode_least(t: rules::Listing) -> Result<Encoding, Refused>
     ensures { result ≡ least_encoded t }
 {
     if !code_fair::is_fair(t) {
