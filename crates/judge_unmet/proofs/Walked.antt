@@ -1,32 +1,37 @@
--- The requirements of some families judged one after the other, counted, as a walk meets them.
-use mathlib.Core.Path.{◌≡◌, sym, ap, ◌∙◌}
-use mathlib.Core.Bool.{true, false}
-use mathlib.Core.List.{List}
-use Prim.Native.Nat.{ℕ, suc, ◌+◌, ◌^◌, ◌≤◌, ◌<◌}
-use native.Mathlib.Omega.{arith}
-use lib.ListN.{length}
-use Rattle.rules.specs.Requirements.{judgement, is_by, met_by_code}
+-- The first of some requirements that no bit meets, by its place among them.
+use Rattle.std.specs.Prelude.{Option, Some, None}
+use Rattle.std.specs.List.{position_from}
+use mathlib.Core.Path.{◌≡◌, refl, sym, ap, ◌∙◌}
+use mathlib.Core.Bool.{Bool, true, false, not, cond}
+use mathlib.Core.List.{List, [], ◌∷◌}
+use Prim.Native.Nat.{ℕ, ◌+◌}
+use native.Mathlib.Numerals.{add-one}
+use Rattle.rules.specs.Requirements.{met_by_code}
 use Rattle.rules.specs.Code.{unmet_from}
 use Rattle.rules.specs.declared.Requirement.{Requirement}
+use Rattle.rules.specs.declared.RequirementNumber.{RequirementNumber}
 use Rattle.rules.proofs.Unmet.{listed-met, listed-unmet}
-use Rattle.code_walking.specs.Walking.{ahead, here, next}
-use Rattle.code_walking.specs.declared.Walk.{Walk}
-use Rattle.code_walking.proofs.Ahead.{over_none, ahead_step}
 use Rattle.judge_unmet.specs.First.{first_of}
-use Rattle.judge_unmet.specs.declared.Unmet.{Unmet}
 
-module _ (bits fs : List ℕ) (w : Walk) (k : ℕ) where
-  pub unmet-here : w.at + 3 ≤ length fs → w.rest < 2 ^ 64 → is_by (judgement 64 bits (here fs w)) ≡ false → Unmet.At (record { 0 = k }) ≡ first_of (unmet_from k 64 bits (ahead fs w))
-  unfolding met_by_code first_of
-  unmet-here h fits e = sym (ap (λ (rs : List Requirement). first_of (unmet_from k 64 bits rs)) (ahead_step fs w h fits) ∙ ap first_of (listed-unmet k 64 bits (here fs w) (ahead fs (next fs w)) e))
+-- a place as the requirement's number
+abbrev pub numbered : Option ℕ → Option RequirementNumber
+numbered None = None
+numbered (Some k) = Some (record { 0 = k })
 
-  pub unmet-next : w.at + 3 ≤ length fs → w.rest < 2 ^ 64 → is_by (judgement 64 bits (here fs w)) ≡ true → first_of (unmet_from (k + 1) 64 bits (ahead fs (next fs w))) ≡ first_of (unmet_from k 64 bits (ahead fs w))
-  unfolding met_by_code
-  unmet-next h fits e =
-      let one : k + 1 ≡ suc k = omega arith in
-      ap (λ (n : ℕ). first_of (unmet_from n 64 bits (ahead fs (next fs w)))) one
-      ∙ sym (ap (λ (rs : List Requirement). first_of (unmet_from k 64 bits rs)) (ahead_step fs w h fits) ∙ ap first_of (listed-met k 64 bits (here fs w) (ahead fs (next fs w)) e))
+abbrev pub is_unmet : List ℕ → Requirement → Bool
+is_unmet bits r = not (met_by_code 64 bits r)
 
-  pub unmet-end : length fs < w.at + 3 → Unmet.Nothing ≡ first_of (unmet_from k 64 bits (ahead fs w))
-  unfolding first_of unmet_from
-  unmet-end h = sym (ap (λ (rs : List Requirement). first_of (unmet_from k 64 bits rs)) (over_none fs w h))
+pub first-from : (bits : List ℕ) (k : ℕ) (rs : List Requirement) → numbered (position_from (is_unmet bits) k rs) ≡ first_of (unmet_from k 64 bits rs)
+unfolding first_of unmet_from
+first-from bits k [] = refl
+first-from bits k (r ∷ rs) = go (met_by_code 64 bits r) refl (first-from bits (k + 1) rs)
+  where
+    go : (t : Bool) → met_by_code 64 bits r ≡ t → numbered (position_from (is_unmet bits) (k + 1) rs) ≡ first_of (unmet_from (k + 1) 64 bits rs)
+        → numbered (position_from (is_unmet bits) k (r ∷ rs)) ≡ first_of (unmet_from k 64 bits (r ∷ rs))
+    go true e q =
+        ap (λ (t : Bool). numbered (cond (not t) (Some k) (position_from (is_unmet bits) (k + 1) rs))) e
+        ∙ q
+        ∙ ap (λ (j : ℕ). first_of (unmet_from j 64 bits rs)) (add-one k)
+        ∙ sym (ap first_of (listed-met k 64 bits r rs e))
+    go false e q =
+        ap (λ (t : Bool). numbered (cond (not t) (Some k) (position_from (is_unmet bits) (k + 1) rs))) e ∙ sym (ap first_of (listed-unmet k 64 bits r rs e))

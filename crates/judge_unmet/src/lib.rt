@@ -8,35 +8,24 @@ ghost use Rattle.families.specs.Families.{requirements_in};
 ghost use Rattle.code_drawing.specs.Drawing.{first_families};
 ghost use Rattle.judge_unmet.specs.First.{first_of};
 
+use code_walking::Requirements;
 use rules::{Listing, RequirementNumber};
 
-// The number of the first requirement that is unmet, or that each is met.
-#[derive(Clone, Copy)]
-pub enum Unmet {
-    At(RequirementNumber),
-    Nothing,
-}
-
-// The first of some families' requirements.
-fn first_in(bits: &[u64], fs: &[u64]) -> Unmet
+// The number of the first of some families' requirements that no bit meets, or that each is met.
+fn first_in(bits: &[u64], fs: &[u64]) -> Option<RequirementNumber>
     requires { length fs.now ≤ 3 * most_states + 3 * most_rows }
     ensures { result ≡ first_of (unmet_from 0 64 bits.now (requirements_in fs.now)) }
 {
-    let mut w = code_walking::enter(fs, 0);
-    let mut k: usize = 0;
-    while !code_walking::is_over(fs, w) {
-        let judged = code_judging::judge(bits, code_walking::requirement(fs, w));
-        if !judged.is_met() {
-            return Unmet::At(RequirementNumber(k));
-        }
-        w = code_walking::step(fs, w);
-        k += 1;
-    }
-    Unmet::Nothing
+    let k = Requirements::new(fs).position(|r| code_judging::is_unmet(bits, r))?;
+    Some(RequirementNumber(k))
 }
 
-// The first of a listing's pairs and groups, judged by the first bits of a code.
-pub fn first_unmet(t: Listing, width: usize, bits: [u64; rules::MOST_BITS]) -> Unmet
+// The same of a listing's pairs and groups, judged by the first bits of a code.
+pub fn first_unmet(
+    t: Listing,
+    width: usize,
+    bits: [u64; rules::MOST_BITS],
+) -> Option<RequirementNumber>
     ensures { result ≡ first_of (unmet_from 0 64 (take width bits) (requirements_in (first_families t))) }
 {
     let n = sets::least(width, rules::MOST_BITS);
