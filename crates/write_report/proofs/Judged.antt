@@ -17,9 +17,6 @@ use Rattle.rules.proofs.Judged.{met-judged, unmet-judged}
 use Rattle.rules.proofs.Unmet.{listed-met, listed-unmet}
 use Rattle.rules.proofs.Good.{AllGood}
 use Rattle.rules.proofs.Reported.{lines-by, lines_none}
-use Rattle.code_walking.specs.Walking.{ahead, here, next}
-use Rattle.code_walking.specs.declared.Walk.{Walk}
-use Rattle.code_walking.proofs.Ahead.{over_none, ahead_step}
 use Rattle.code_judging.proofs.Wide.{judged-wide}
 use Rattle.write_parts.specs.Parts.{added_all}
 use Rattle.write_parts.proofs.Adding.{Lent, added_none, all_more}
@@ -58,27 +55,27 @@ pub lines-behind : (l : Listed) (k : ℕ) (bits : List ℕ) (r : Requirement) (r
 unfolding lines_of
 lines-behind l k bits r rs = refl
 
-module _ (l : Listed) (k : ℕ) (bits fs : List ℕ) (w : Walk) where
-  pub lines_more : w.at + 3 ≤ length fs → w.rest < 2 ^ 64
-      → line_for l k (judgement 64 bits (here fs w)) ∷ lines_of l (k + 1) bits (ahead fs (next fs w)) ≡ lines_of l k bits (ahead fs w)
-  lines_more h fits =
-      sym (ap (lines_of l k bits) (ahead_step fs w h fits)
-      ∙ lines-behind l k bits (here fs w) (ahead fs (next fs w))
-      ∙ ap (λ (j : ℕ). line_for l k (judgement 64 bits (here fs w)) ∷ lines_of l j bits (ahead fs (next fs w))) (sym (add-one k)))
+-- the first of some requirements, which has the number n, and those behind it
+module _ (bits : List ℕ) {n k m : ℕ} {r : Requirement} {rs rest : List Requirement} {j : Option BitNumber}
+    (first : rs ≡ r ∷ rest) (number : k ≡ n) (next : m ≡ n + 1) (judged : j ≡ judgement 64 bits r) where
+  pub lines_more : (l : Listed) → line_for l k j ∷ lines_of l m bits rest ≡ lines_of l n bits rs
+  lines_more l =
+      ap₂ (λ (i : ℕ) (q : Option BitNumber). line_for l i q ∷ lines_of l m bits rest) number judged
+      ∙ ap (λ (i : ℕ). line_for l n (judgement 64 bits r) ∷ lines_of l i bits rest) (next ∙ add-one n)
+      ∙ sym (ap (lines_of l n bits) first ∙ lines-behind l n bits r rest)
 
-  pub lines_end : length fs < w.at + 3 → lines_of l k bits (ahead fs w) ≡ []
-  unfolding lines_of
-  lines_end h = ap (lines_of l k bits) (over_none fs w h)
+  -- one that is not missed adds nothing to the lines of those that are not met
+  pub none_here : digit (not (is_by j)) ≡ 0 → (s : Lent) → added_all (lines_of Listed.Unmet n bits rs) s ≡ added_all (lines_of Listed.Unmet m bits rest) s
+  none_here z s =
+      let ls : List (List ℕ) = lines_of Listed.Unmet m bits rest in
+      ap (λ (ms : List (List ℕ)). added_all ms s) (sym (lines_more Listed.Unmet))
+      ∙ ap (λ (l : List ℕ). added_all (l ∷ ls) s) (none-missed k j z)
+      ∙ all_more [] ls s
+      ∙ ap (added_all ls) (added_none s)
 
--- one that is not missed adds nothing to the lines of those that are not met
-pub none_here : (k : ℕ) (bits fs : List ℕ) (w : Walk) → w.at + 3 ≤ length fs → w.rest < 2 ^ 64 → digit (not (is_by (judgement 64 bits (here fs w)))) ≡ 0 → (s : Lent)
-    → added_all (lines_of Listed.Unmet k bits (ahead fs w)) s ≡ added_all (lines_of Listed.Unmet (k + 1) bits (ahead fs (next fs w))) s
-none_here k bits fs w h fits z s =
-    let ls : List (List ℕ) = lines_of Listed.Unmet (k + 1) bits (ahead fs (next fs w)) in
-    ap (λ (ms : List (List ℕ)). added_all ms s) (sym (lines_more Listed.Unmet k bits fs w h fits))
-    ∙ ap (λ (m : List ℕ). added_all (m ∷ ls) s) (none-missed k (judgement 64 bits (here fs w)) z)
-    ∙ all_more [] ls s
-    ∙ ap (added_all ls) (added_none s)
+pub lines_end : (l : Listed) (k : ℕ) (bits : List ℕ) {rs : List Requirement} → rs ≡ [] → lines_of l k bits rs ≡ []
+unfolding lines_of
+lines_end l k bits e = ap (lines_of l k bits) e
 
 -- ---- they are the report's
 

@@ -7,7 +7,7 @@ ghost use Rattle.write_parts.specs.Parts.{added_all};
 ghost use Rattle.write_texts.specs.Texts.{cover_verdict, verdict_of, text_lines};
 ghost use Rattle.write_texts.specs.declared.Text.{Text};
 
-use rules::{Encoding, Listing, Verdict};
+use rules::{Encoding, Listing, Refusal, Refused};
 use write_parts::Part;
 
 // Which text is written.
@@ -20,26 +20,26 @@ pub enum Text {
 }
 
 // A cover is refused 9 where a pair or group requirement is unmet.
-fn cover_verdict(t: Listing, e: Encoding) -> Verdict
+fn cover_verdict(t: Listing, e: Encoding) -> Result<(), Refused>
     ensures { result ≡ cover_verdict t e }
 {
     let mut fs = [0u64; code_drawing::ALL_WORDS];
     let words = code_drawing::draw_first(t, &mut fs);
     if code_judging::is_any_unmet(e, &fs[..words]) {
-        return Verdict::Refused(rules::Refusal::Unmet, 0);
+        return Err(Refusal::Unmet.at(0));
     }
-    Verdict::Accepted
+    Ok(())
 }
 
 // Whether a text is refused in a code that there is: a cover can be, the others never are.
-pub fn verdict_of(text: Text, t: Listing, e: Encoding) -> Verdict
+pub fn verdict_of(text: Text, t: Listing, e: Encoding) -> Result<(), Refused>
     ensures { result ≡ verdict_of text t e }
 {
     match text {
-        Text::Report => Verdict::Accepted,
+        Text::Report => Ok(()),
         Text::Cover => cover_verdict(t, e),
-        Text::Widths => Verdict::Accepted,
-        Text::Listing => Verdict::Accepted,
+        Text::Widths => Ok(()),
+        Text::Listing => Ok(()),
     }
 }
 
