@@ -3,7 +3,7 @@ use Rattle.std.specs.Prelude.{ℕ, zero, suc, ◌+◌, ◌%◌, ◌^◌, min, co
 use Rattle.sets.specs.Sets.{has, everyone, flip}
 use Rattle.rules.specs.OneBit.{rather}
 use Rattle.rules.specs.declared.Requirement.{Requirement}
-use Rattle.move_table.specs.Table.{level, less}
+use Rattle.move_table.specs.Table.{level}
 use Rattle.move_table.specs.Moves.{filled, moved, looked}
 use Rattle.bit_choice.specs.declared.Passed.{Passed}
 use Rattle.bit_choice.specs.declared.Built.{Built}

@@ -54,18 +54,15 @@ pub fn choose(n: usize, free: u64, t: &[u32]) -> usize
 pub fn best_of(p: Passed, b: u64, now: u32, looks: u64) -> Passed
     ensures { result ≡ best_of p b now looks }
 {
-    let sum = std::num::wrapping_add_u64(p.looks, looks);
+    let looks = p.looks.wrapping_add(looks);
     if p.level < now {
-        return Passed {
+        Passed {
             bit: b,
             level: now,
-            looks: sum,
-        };
-    }
-    Passed {
-        bit: p.bit,
-        level: p.level,
-        looks: sum,
+            looks,
+        }
+    } else {
+        Passed { looks, ..p }
     }
 }
 
@@ -73,7 +70,7 @@ pub fn best_of(p: Passed, b: u64, now: u32, looks: u64) -> Passed
 pub fn reach(now: u32, gain: u32) -> u32
     ensures { result ≡ reached now gain }
 {
-    (((now as u64) + (gain as u64) + 2147483648) % 4294967296) as u32
+    now.wrapping_add(gain).wrapping_sub(move_table::LEVEL)
 }
 
 // A bit of n states, complemented if state 0 has value 1; of more than 64 states the first 64.
@@ -83,9 +80,5 @@ pub fn complement(n: usize, b: u64) -> u64
     if !sets::member(b, 0) {
         return b;
     }
-    let all = sets::everyone_of(n);
-    if all < b {
-        return 0;
-    }
-    all - b
+    sets::everyone_of(n).saturating_sub(b)
 }

@@ -1,5 +1,5 @@
 -- How many requirements there are: of a family, of a list of families, and of the live pairs.
-use Rattle.std.proofs.Common.{◌≡◌, ℕ, zero, suc, ◌+◌, ◌-◌, ◌%◌, ◌^◌, ◌<◌, ◌≤◌, min, List, map, length, get_or, drop, sym, ap, ◌∙◌, ap₂, arith, length-append, pow_pos, eq-eqb, ne_eqb}
+use Rattle.std.proofs.Common.{◌≡◌, ℕ, zero, suc, ◌+◌, ◌-◌, ◌%◌, ◌^◌, ◌<◌, ◌≤◌, min, List, ◌∷◌, map, length, get_or, sym, ap, ◌∙◌, ap₂, arith, length-append, pow_pos, eq-eqb, ne_eqb}
 use lib.ListN.{length-map}
 use Rattle.sets.specs.Sets.{has, everyone, size, total, states_from}
 use Rattle.sets.proofs.Members.{has-lt, has_all, has-high}
@@ -8,7 +8,6 @@ use Rattle.sets.proofs.Size.{size-total}
 use Rattle.sets.proofs.SizeMembers.{size_few}
 use Rattle.families.specs.Families.{without, inside, joined, requirements_of, requirements_in}
 use Rattle.families.proofs.Parts.{has_rest, rest_lt}
-use Rattle.families.proofs.Walk.{family-left, short-left}
 use Rattle.families.proofs.Walking.{walked-total, walked-length}
 use Rattle.move_families.proofs.Turn.{looks-add}
 use Rattle.move_pairs.specs.Pairs.{live_pairs, partners_of}
@@ -78,37 +77,33 @@ module _ (all flip out : ℕ) where
 
 -- ---- a list of families, modulo 2 ^ 64: what is left of it is still to be counted
 
-pub count-more : (fs : List ℕ) (i : ℕ) → 2 < length fs - i
-    → length (requirements_in (drop i fs)) ≡ length (requirements_of (get_or fs i 0) (get_or fs (i + 1) 0) (get_or fs (i + 2) 0)) + length (requirements_in (drop (i + 3) fs))
+pub count-more : (l rest : List ℕ) (all flip out : ℕ) → l ≡ all ∷ (flip ∷ (out ∷ rest)) → length (requirements_in l) ≡ length (requirements_of all flip out) + length (requirements_in rest)
 unfolding requirements_in
-count-more fs i h =
-    ap (λ (l : List ℕ). length (requirements_in l)) (family-left fs i h)
-    ∙ length-append (requirements_of (get_or fs i 0) (get_or fs (i + 1) 0) (get_or fs (i + 2) 0)) (requirements_in (drop (i + 3) fs))
+count-more l rest all flip out e = ap (λ (k : List ℕ). length (requirements_in k)) e ∙ length-append (requirements_of all flip out) (requirements_in rest)
 
-pub count-end : (fs : List ℕ) (i : ℕ) → length fs - i ≤ 2 → length (requirements_in (drop i fs)) ≡ 0
-count-end fs i h = ap length (families-short (drop i fs) (short-left fs i h))
+pub count-end : (l : List ℕ) → length l ≤ 2 → length (requirements_in l) ≡ 0
+count-end l h = ap length (families-short l h)
 
-pub record Counted (fs : List ℕ) (count i : ℕ) : Type 0 where
-  pub sum : (count + length (requirements_in (drop i fs))) % 2 ^ 64 ≡ length (requirements_in fs) % 2 ^ 64
+pub record Counted (fs : List ℕ) (count : ℕ) (rest : List ℕ) : Type 0 where
+  pub sum : (count + length (requirements_in rest)) % 2 ^ 64 ≡ length (requirements_in fs) % 2 ^ 64
   pub fits : count < 2 ^ 64
-  pub within : i ≤ length fs
 
 module _ (fs : List ℕ) where
-  pub counted_none : Counted fs 0 0
-  counted_none = record { sum = ap (λ (m : ℕ). m % 2 ^ 64) (none (length (requirements_in fs))); fits = omega arith; within = omega arith }
+  pub counted_none : Counted fs 0 fs
+  counted_none = record { sum = ap (λ (m : ℕ). m % 2 ^ 64) (none (length (requirements_in fs))); fits = omega arith }
     where
       none : (x : ℕ) → 0 + x ≡ x
       none x = omega arith
 
-  pub counted_next : (count i one next : ℕ) → 2 < length fs - i → Counted fs count i → one ≡ length (requirements_of (get_or fs i 0) (get_or fs (i + 1) 0) (get_or fs (i + 2) 0))
-      → next ≡ (count + one) % 2 ^ 64 → Counted fs next (i + 3)
-  counted_next count i one next h g e f =
-      let more : ℕ = length (requirements_in (drop (i + 3) fs)) in
-      let k = looks-add count one more (length (requirements_in (drop i fs))) (length (requirements_in fs)) next g.sum (count-more fs i h ∙ ap (λ (m : ℕ). m + more) (sym e)) f in
-      record { sum = k.0; fits = k.1; within = omega arith }
+  pub counted_next : (count one next : ℕ) (l rest : List ℕ) (all flip out : ℕ) → l ≡ all ∷ (flip ∷ (out ∷ rest)) → Counted fs count l → one ≡ length (requirements_of all flip out)
+      → next ≡ (count + one) % 2 ^ 64 → Counted fs next rest
+  counted_next count one next l rest all flip out w g e f =
+      let more : ℕ = length (requirements_in rest) in
+      let k = looks-add count one more (length (requirements_in l)) (length (requirements_in fs)) next g.sum (count-more l rest all flip out w ∙ ap (λ (m : ℕ). m + more) (sym e)) f in
+      record { sum = k.0; fits = k.1 }
 
-  pub counted-all : (count i : ℕ) → length fs - i ≤ 2 → Counted fs count i → count ≡ length (requirements_in fs) % 2 ^ 64
-  counted-all count i h g = last count (length (requirements_in (drop i fs))) (length (requirements_in fs) % 2 ^ 64) g.fits (count-end fs i h) g.sum
+  pub counted-all : (count : ℕ) (l : List ℕ) → length l ≤ 2 → Counted fs count l → count ≡ length (requirements_in fs) % 2 ^ 64
+  counted-all count l h g = last count (length (requirements_in l)) (length (requirements_in fs) % 2 ^ 64) g.fits (count-end l h) g.sum
     where
       last : (x y z : ℕ) → x < 2 ^ 64 → y ≡ 0 → (x + y) % 2 ^ 64 ≡ z → x ≡ z
       last x y z h e f = omega arith

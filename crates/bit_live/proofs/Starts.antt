@@ -1,5 +1,5 @@
 -- The lowest requirement: of a family, of a list of families, and of the live ones.
-use Rattle.std.proofs.Common.{◌≡◌, ℕ, zero, suc, ◌+◌, ◌-◌, ◌^◌, ◌<◌, ◌≤◌, min, Bool, cond, List, [], ◌∷◌, ◌++◌, map, length, get_or, drop, sym, refl, ap, ◌∙◌, subst, ap₂, append_assoc, append-nil, arith, eq-eqb, ne_eqb}
+use Rattle.std.proofs.Common.{◌≡◌, ℕ, zero, suc, ◌+◌, ◌-◌, ◌^◌, ◌<◌, ◌≤◌, min, Bool, cond, List, [], ◌∷◌, ◌++◌, map, length, get_or, sym, refl, ap, ◌∙◌, subst, ap₂, append_assoc, append-nil, arith, eq-eqb, ne_eqb}
 use native.Mathlib.Decide.{dec_lt, ℕ_discrete}
 use lib.Bits.{bit_and, bit_or}
 use lib.Count.{count_trailing_zeros}
@@ -11,7 +11,6 @@ use Rattle.rules.specs.OneBit.{start}
 use Rattle.rules.specs.declared.Requirement.{Requirement}
 use Rattle.families.specs.Families.{without, inside, single, joined, requirements_of, requirements_in}
 use Rattle.families.proofs.Inside.{inside-in, inside-out, inside-none}
-use Rattle.families.proofs.Walk.{family-left, short-left}
 use Rattle.move_pairs.specs.Pairs.{live_pairs, partners_of}
 use Rattle.move_pairs.proofs.Partners.{pairs_among, pairs_of, Partners}
 use Rattle.move_pairs.proofs.Pair.{pair}
@@ -73,25 +72,19 @@ start_first : (rs qs : List Requirement) → (length rs ≡ 0 → ⊥) → start
 start_first [] qs o = absurd (o refl)
 start_first (r ∷ rs) qs o = refl
 
-module _ (fs : List ℕ) (i : ℕ) where
-  here : List Requirement
-  here = requirements_of (get_or fs i 0) (get_or fs (i + 1) 0) (get_or fs (i + 2) 0)
+module _ (l rest : List ℕ) (all flip out : ℕ) (e : l ≡ all ∷ (flip ∷ (out ∷ rest))) where
+  parts : requirements_in l ≡ requirements_of all flip out ++ requirements_in rest
+  unfolding requirements_in
+  parts = ap requirements_in e
 
-  parts : 2 < length fs - i → requirements_in (drop i fs) ≡ here ++ requirements_in (drop (i + 3) fs)
-  unfolding requirements_in here
-  parts h = ap requirements_in (family-left fs i h)
+  pub passed_over : length (requirements_of all flip out) ≡ 0 → requirements_in rest ≡ requirements_in l
+  passed_over z = sym (parts ∙ ap (λ (rs : List Requirement). rs ++ requirements_in rest) (empty (requirements_of all flip out) z))
 
-  pub passed_over : 2 < length fs - i → length (requirements_of (get_or fs i 0) (get_or fs (i + 1) 0) (get_or fs (i + 2) 0)) ≡ 0 → requirements_in (drop (i + 3) fs) ≡ requirements_in (drop i fs)
-  unfolding here
-  passed_over h e = sym (parts h ∙ ap (λ (l : List Requirement). l ++ requirements_in (drop (i + 3) fs)) (empty here e))
+  pub start-here : (length (requirements_of all flip out) ≡ 0 → ⊥) → start (requirements_of all flip out) ≡ start (requirements_in l)
+  start-here o = sym (ap start parts ∙ start_first (requirements_of all flip out) (requirements_in rest) o)
 
-  pub start-here : 2 < length fs - i → (length (requirements_of (get_or fs i 0) (get_or fs (i + 1) 0) (get_or fs (i + 2) 0)) ≡ 0 → ⊥)
-      → start (requirements_of (get_or fs i 0) (get_or fs (i + 1) 0) (get_or fs (i + 2) 0)) ≡ start (requirements_in (drop i fs))
-  unfolding here
-  start-here h o = sym (ap start (parts h) ∙ start_first here (requirements_in (drop (i + 3) fs)) o)
-
-  pub start-over : length fs - i ≤ 2 → 0 ≡ start (requirements_in (drop i fs))
-  start-over h = sym (ap start (families-short (drop i fs) (short-left fs i h)))
+pub start-over : (l : List ℕ) → length l ≤ 2 → 0 ≡ start (requirements_in l)
+start-over l h = sym (ap start (families-short l h))
 
 -- ---- the live pairs
 
@@ -115,6 +108,14 @@ nobody-from ps (suc m) a o =
 pub none-behind : (n : ℕ) (bits : List ℕ) (t : ℕ) → min n 64 ≤ t → get_or (partners_by n bits) t 0 ≡ 0
 none-behind n bits t h = let l : length (partners_by n bits) ≤ t = omega (arith, partners-length n bits) in get_or-eq_default (partners_by n bits) 0 l
 
+pub pairs-nobody : (n : ℕ) (bits : List ℕ) → ((k : ℕ) → k < min n 64 → partners_of n bits k ≡ 0) → live_pairs n bits ≡ []
+unfolding pairs_of
+pairs-nobody n bits o = sym (partners-pairs n bits) ∙ nobody-from (partners_by n bits) 64 0 (λ t _. go t (dec_lt t (min n 64)))
+  where
+    go : (t : ℕ) → Dec (t < min n 64) → get_or (partners_by n bits) t 0 ≡ 0
+    go t (yes h) = partners-at n bits t ∙ o t h
+    go t (no h) = none-behind n bits t (omega arith)
+
 module _ (n : ℕ) (bits : List ℕ) (i : ℕ) (f : FirstPaired n bits i) where
   ps : List ℕ
   ps = partners_by n bits
@@ -123,24 +124,12 @@ module _ (n : ℕ) (bits : List ℕ) (i : ℕ) (f : FirstPaired n bits i) where
   unfolding ps
   at t = partners-at n bits t
 
-  pub pairs-nobody : partners_of n bits i ≡ 0 → live_pairs n bits ≡ []
-  unfolding pairs_of ps
-  pairs-nobody e = sym (partners-pairs n bits) ∙ nobody-from (partners_by n bits) 64 0 (λ t _. go t (dec_lt i (min n 64)))
-    where
-      go : (t : ℕ) → Dec (i < min n 64) → get_or (partners_by n bits) t 0 ≡ 0
-      go t (yes h) = absurd (f.some h e)
-      go t (no h) = below (dec_lt t i)
-        where
-          below : Dec (t < i) → get_or (partners_by n bits) t 0 ≡ 0
-          below (yes l) = at t ∙ f.none t l
-          below (no l) = none-behind n bits t (omega arith)
-
-  pub pairs-some : (k : ℕ) (qs : List Requirement) → (partners_of n bits i ≡ 0 → ⊥) → k ≡ count_trailing_zeros 64 (partners_of n bits i) → (k < 64) × (start (live_pairs n bits ++ qs) ≡ only k)
+  pub pairs-some : (k : ℕ) (qs : List Requirement) → k ≡ count_trailing_zeros 64 (partners_of n bits i) → (k < 64) × (start (live_pairs n bits ++ qs) ≡ only k)
   unfolding pairs_of pairs_among states_from ps
-  pairs-some k qs o e =
+  pairs-some k qs e =
       let table : Partners ps = partners-table n bits in
       let p : ℕ = get_or ps i 0 in
-      let o' : p ≡ 0 → ⊥ = λ z. o (sym (at i) ∙ z) in
+      let o' : p ≡ 0 → ⊥ = λ z. f.some (sym (at i) ∙ z) in
       let e' : k ≡ count_trailing_zeros 64 p = e ∙ ap (count_trailing_zeros 64) (sym (at i)) in
       let l = lowest-at p k (table.words i) o' e' in
       let back : has (get_or ps k 0) i ≡ 1 = sym (table.back i k) ∙ l.1 in

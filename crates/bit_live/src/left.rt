@@ -7,16 +7,12 @@ ghost use Rattle.bit_live.specs.Left.{left_by, stays_by, laid, words_behind, mov
 fn left_by(x: u64, y: u64, o: u64, b: u64) -> u64
     ensures { result ≡ left_by (size x) (size y) o b }
 {
-    if x == 0 {
-        if y == 0 {
-            return 0;
-        }
-        return o ^ (o & b);
+    match (x, y) {
+        (0, 0) => 0,
+        (0, _) => o ^ (o & b),
+        (_, 0) => o & b,
+        _ => o,
     }
-    if y == 0 {
-        return o & b;
-    }
-    o
 }
 
 // Whether some requirement is live, where x and y must change, and these states outside are left.
@@ -24,12 +20,10 @@ fn stays_by(x: u64, y: u64, out: u64, left: u64) -> bool
     ensures { result ≡ stays_by (size x) (size y) out left }
 {
     if out == 0 {
-        if x == 0 {
-            return false;
-        }
-        return y != 0;
+        x != 0 && y != 0
+    } else {
+        left != 0
     }
-    left != 0
 }
 
 // A family's three numbers at place j.

@@ -11,7 +11,7 @@ ghost use Rattle.move_table.specs.Moves.{filled, moved, looked};
 ghost use Rattle.families.specs.Families.{requirements_of, requirements_in};
 ghost use Rattle.move_pairs.specs.Pairs.{live_pairs};
 ghost use Rattle.bit_live.specs.Live.{live_in};
-ghost use Rattle.bit_live.specs.Lowest.{FirstPaired};
+ghost use Rattle.bit_live.specs.Lowest.{FirstPartners};
 ghost use Rattle.bit_live.specs.Left.{left_families, sifted_families};
 
 // What all live requirements add to the gain table at the bit b.
@@ -30,21 +30,18 @@ pub fn move_live(n: usize, bits: &[u64], fs: &[u64], b: u64, s: usize, t: &mut [
     let one = move_pairs::sway_pairs(n, bits, b, s, t);
     let other = move_families::sway_families(fs, b, s, t);
     move_families::double_own(t, s, v);
-    std::num::wrapping_add_usize(one, other)
+    one.wrapping_add(other)
 }
 
 // How many live pairs there are.
 pub fn count_pairs(n: usize, bits: &[u64]) -> usize
     ensures { result ≡ length (live_pairs n bits.now) }
 {
-    let last = sets::least(n, 64);
     let mut count: usize = 0;
-    let mut i: usize = 0;
-    while i < last {
+    for i in 0..n.min(64) {
         let p = move_pairs::partners_of(n, bits, i);
         let above = families::without_of(p, sets::everyone_of(i + 1));
         count += sets::size_of(above) as usize;
-        i += 1;
     }
     count
 }
@@ -54,9 +51,10 @@ pub fn count_family(all: u64, flip: u64, out: u64) -> u32
     ensures { result ≡ length (requirements_of all flip out) }
 {
     if out == 0 {
-        return 1;
+        1
+    } else {
+        sets::size_of(families::without_of(out, all))
     }
-    sets::size_of(families::without_of(out, all))
 }
 
 // How many requirements the families of a list have, modulo 2 ^ 64.
@@ -64,11 +62,9 @@ fn count_families(fs: &[u64]) -> usize
     ensures { result ≡ length (requirements_in fs.now) % 2 ^ 64 }
 {
     let mut count: usize = 0;
-    let mut i: usize = 0;
-    while 2 < fs.len() - i {
-        let one = count_family(fs[i], fs[i + 1], fs[i + 2]);
-        count = std::num::wrapping_add_usize(count, one as usize);
-        i += 3;
+    let (families, _) = fs.as_chunks::<3>();
+    for &[all, flip, out] in families {
+        count = count.wrapping_add(count_family(all, flip, out) as usize);
     }
     count
 }
@@ -77,22 +73,20 @@ fn count_families(fs: &[u64]) -> usize
 pub fn count_live(n: usize, bits: &[u64], fs: &[u64]) -> usize
     ensures { result ≡ length (live_in n bits.now fs.now) % 2 ^ 64 }
 {
-    std::num::wrapping_add_usize(count_pairs(n, bits), count_families(fs))
+    count_pairs(n, bits).wrapping_add(count_families(fs))
 }
 
-// The first state with a partner, or how many states there are.
-fn first_paired(n: usize, bits: &[u64]) -> usize
-    ensures { FirstPaired n bits.now result }
+// The partners of the first state with any, if there is one.
+fn first_partners(n: usize, bits: &[u64]) -> Option<u64>
+    ensures { FirstPartners n bits.now result }
 {
-    let last = sets::least(n, 64);
-    let mut i: usize = 0;
-    while i < last {
-        if move_pairs::partners_of(n, bits, i) != 0 {
-            return i;
+    for i in 0..n.min(64) {
+        let p = move_pairs::partners_of(n, bits, i);
+        if p != 0 {
+            return Some(p);
         }
-        i += 1;
     }
-    i
+    None
 }
 
 // The second block of a family's lowest requirement; of a family without one, nobody.
@@ -114,15 +108,11 @@ fn start_family(all: u64, flip: u64, out: u64) -> u64
 fn start_families(fs: &[u64]) -> u64
     ensures { result ≡ start (requirements_in fs.now) }
 {
-    let mut i: usize = 0;
-    while 2 < fs.len() - i {
-        let all = fs[i];
-        let flip = fs[i + 1];
-        let out = fs[i + 2];
+    let (families, _) = fs.as_chunks::<3>();
+    for &[all, flip, out] in families {
         if count_family(all, flip, out) != 0 {
             return start_family(all, flip, out);
         }
-        i += 3;
     }
     0
 }
@@ -131,12 +121,10 @@ fn start_families(fs: &[u64]) -> u64
 pub fn start_live(n: usize, bits: &[u64], fs: &[u64]) -> u64
     ensures { result ≡ start (live_in n bits.now fs.now) }
 {
-    let i = first_paired(n, bits);
-    let p = move_pairs::partners_of(n, bits, i);
-    if p == 0 {
-        return start_families(fs);
+    match first_partners(n, bits) {
+        Some(p) => sets::flipped(0, sets::lowest(p)),
+        None => start_families(fs),
     }
-    sets::flipped(0, sets::lowest(p))
 }
 
 // The families that the bit b leaves live move to the front, in their order; the answer is how many words they take.
@@ -144,10 +132,8 @@ pub fn sift_families(fs: &mut [u64], b: u64) -> usize
     ensures { (result ≡ length (left_families b fs.old)) × (fs.new ≡ sifted_families b fs.old) }
 {
     let mut j: usize = 0;
-    let mut i: usize = 0;
-    while 2 < fs.len() - i {
-        j = left::sift_family(fs, i, j, b);
-        i += 3;
+    for k in 0..fs.len() / 3 {
+        j = left::sift_family(fs, 3 * k, j, b);
     }
     j
 }

@@ -1,5 +1,5 @@
 -- The steps of building a bit, of what code has on the way.
-use Rattle.std.proofs.Common.{◌≡◌, ℕ, ◌+◌, ◌-◌, ◌%◌, ◌^◌, ◌<◌, ◌≤◌, min, Bool, true, false, cond, ltb, List, ◌++◌, length, get_or, drop, sym, refl, ap, ◌∙◌, ap₂, arith, length-append}
+use Rattle.std.proofs.Common.{◌≡◌, ℕ, ◌+◌, ◌-◌, ◌%◌, ◌^◌, ◌<◌, ◌≤◌, min, Bool, true, false, cond, ltb, List, ◌∷◌, ◌++◌, length, get_or, sym, refl, ap, ◌∙◌, ap₂, arith, length-append}
 use Rattle.sets.specs.Sets.{flip, states_from}
 use Rattle.rules.specs.Requirements.{pairs}
 use Rattle.rules.specs.declared.Requirement.{Requirement}
@@ -57,12 +57,12 @@ module _ (n : ℕ) (rs : List Requirement) (b₀ p₀ l₀ k : ℕ) where
   running-first h g = record { counts = λ m. refl; passes_fit = h; looks_fit = g }
 
   module _ (b p l left p' l' : ℕ) (q : Passed) (some : 0 < left) (e : q ≡ passed n rs b) (ep : p' ≡ (p + 1) % 2 ^ 64) (el : l' ≡ (l + q.looks) % 2 ^ 64) (g : Running b p l left) where
-    pub running_more : level < q.level → Running q.bit p' l' (left - 1)
-    running_more gain = record {
+    pub running_more : (left' : ℕ) → left ≡ left' + 1 → level < q.level → Running q.bit p' l' left'
+    running_more left' one gain = record {
       counts = λ m.
           let h : 0 < left + m = omega arith in
-          let f : left - 1 + m ≡ left + m - 1 = omega arith in
-          ap₂ (λ (x y : ℕ). tallied x y (passes_by (left - 1 + m) n rs q.bit)) ep el
+          let f : left' + m ≡ left + m - 1 = omega arith in
+          ap₂ (λ (x y : ℕ). tallied x y (passes_by (left' + m) n rs q.bit)) ep el
           ∙ ap (λ (j : ℕ). tallied ((p + 1) % 2 ^ 64) ((l + q.looks) % 2 ^ 64) (passes_by j n rs q.bit)) f
           ∙ sym (tally-more n rs b p l (left + m) q h e gain)
           ∙ g.counts m;
@@ -79,12 +79,11 @@ module _ (n : ℕ) (rs : List Requirement) (b₀ p₀ l₀ k : ℕ) where
       looks_fit = omega arith;
     }
 
-  pub running-end : (b p l left : ℕ) → left ≤ 0 → Running b p l left → (w : Run) → w.done ≡ false → w.bit ≡ b₀ → w.passes ≡ p₀ → w.looks ≡ l₀
-      → Ran n rs k w (record { bit = b; passes = p; looks = l; done = false })
-  running-end b p l left z g w d eb ew ev = record {
+  pub running-end : (left : ℕ) (w r : Run) → left ≤ 0 → Running r.bit r.passes r.looks left → r.done ≡ false → w.done ≡ false → w.bit ≡ b₀ → w.passes ≡ p₀ → w.looks ≡ l₀ → Ran n rs k w r
+  running-end left w r z g dr d eb ew ev = record {
     goes = λ m.
         let f : left + m ≡ m = omega arith in
-        rw (d, eb, ew, ev) (sym (g.counts m) ∙ ap (λ (j : ℕ). tallied p l (passes_by j n rs b)) f);
+        rw (d, eb, ew, ev, dr) (sym (g.counts m) ∙ ap (λ (j : ℕ). tallied r.passes r.looks (passes_by j n rs r.bit)) f);
     passes_fit = g.passes_fit;
     looks_fit = g.looks_fit;
   }
@@ -120,31 +119,31 @@ built-is n m bits fs b e =
     ap (λ (k : ℕ). tallied 0 0 (passes_by (length (live_in k bits fs) + 1) k (live_in k bits fs) b)) e
     ∙ ap (λ (rs : List Requirement). tallied 0 0 (passes_by (length rs + 1) (min n 64) rs b)) (live_same n bits fs)
 
-module _ (n : ℕ) (bits fs : List ℕ) where
-  -- the passes still allowed for: those of the families from i on, and of the pairs
-  unfoldable pub allowed : ℕ → ℕ
+module _ (n : ℕ) (bits : List ℕ) where
+  -- the passes still allowed for: those of the families still to come, and of the pairs
+  unfoldable pub allowed : List ℕ → ℕ
   unfolding requirements_in live_pairs
-  allowed i = length (requirements_in (drop i fs)) + length (live_pairs n bits)
+  allowed rest = length (requirements_in rest) + length (live_pairs n bits)
 
-  pub allowed-first : 1 + allowed 0 ≡ length (live_in n bits fs) + 1
+  pub allowed-first : (fs : List ℕ) → 1 + allowed fs ≡ length (live_in n bits fs) + 1
   unfolding allowed
-  allowed-first = swap (length (live_pairs n bits)) (length (requirements_in fs)) (length (live_in n bits fs)) (length-append (live_pairs n bits) (requirements_in fs))
+  allowed-first fs = swap (length (live_pairs n bits)) (length (requirements_in fs)) (length (live_in n bits fs)) (length-append (live_pairs n bits) (requirements_in fs))
     where
       swap : (p q s : ℕ) → s ≡ p + q → 1 + (q + p) ≡ s + 1
       swap p q s e = omega arith
 
-  pub allowed-more : (i k : ℕ) → 2 < length fs - i → k ≡ length (requirements_of (get_or fs i 0) (get_or fs (i + 1) 0) (get_or fs (i + 2) 0)) → allowed i ≡ k + allowed (i + 3)
+  pub allowed-more : (l rest : List ℕ) (all flip out k : ℕ) → l ≡ all ∷ (flip ∷ (out ∷ rest)) → k ≡ length (requirements_of all flip out) → allowed l ≡ k + allowed rest
   unfolding allowed
-  allowed-more i k h e =
-      ap (λ (x : ℕ). x + length (live_pairs n bits)) (count-more fs i h ∙ ap (λ (x : ℕ). x + length (requirements_in (drop (i + 3) fs))) (sym e))
-      ∙ assoc k (length (requirements_in (drop (i + 3) fs))) (length (live_pairs n bits))
+  allowed-more l rest all flip out k w e =
+      ap (λ (x : ℕ). x + length (live_pairs n bits)) (count-more l rest all flip out w ∙ ap (λ (x : ℕ). x + length (requirements_in rest)) (sym e))
+      ∙ assoc k (length (requirements_in rest)) (length (live_pairs n bits))
     where
       assoc : (x y z : ℕ) → x + y + z ≡ x + (y + z)
       assoc x y z = omega arith
 
-  pub allowed-last : (i k : ℕ) → length fs - i ≤ 2 → k ≡ length (live_pairs n bits) → allowed i ≡ k + 0
+  pub allowed-last : (l : List ℕ) (k : ℕ) → length l ≤ 2 → k ≡ length (live_pairs n bits) → allowed l ≡ k + 0
   unfolding allowed
-  allowed-last i k h e = last (length (requirements_in (drop i fs))) (length (live_pairs n bits)) k (count-end fs i h) e
+  allowed-last l k h e = last (length (requirements_in l)) (length (live_pairs n bits)) k (count-end l h) e
     where
       last : (x y k : ℕ) → x ≡ 0 → k ≡ y → x + y ≡ k + 0
       last x y k e f = omega arith

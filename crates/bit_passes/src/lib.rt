@@ -4,7 +4,7 @@
 ghost use Rattle.std.specs.Prelude.{◌≡◌, ◌+◌, ◌≤◌, length};
 ghost use Rattle.bit_choice.specs.Pass.{going, go_on, passed, passes_by, tallied, built_by};
 ghost use Rattle.bit_live.specs.Live.{live_in};
-ghost use Rattle.bit_passes.specs.Runs.{Ran};
+ghost use Rattle.bit_passes.specs.Runs.{built_of, Ran};
 
 use bit_choice::{Built, Passed, Way, best_of, choose, reach};
 
@@ -15,6 +15,19 @@ pub struct Run {
     pub passes: u64,
     pub looks: u64,
     pub done: bool,
+}
+
+// What a run has built, where no pass follows.
+impl From<Run> for Built {
+    ghost from_gives = { λ w r. r ≡ built_of w };
+
+    fn from(w: Run) -> Built {
+        Built {
+            bit: w.bit,
+            passes: w.passes,
+            looks: w.looks,
+        }
+    }
 }
 
 // One move of a pass over n states.
@@ -55,10 +68,8 @@ fn run_pass(n: usize, bits: &[u64], fs: &[u64], b: u64) -> Passed
         level: move_table::LEVEL,
         best: none,
     };
-    let mut i: usize = 0;
-    while i < n {
+    for _ in 0..n {
         w = go_on(n, bits, fs, w, &mut t);
-        i += 1;
     }
     w.best
 }
@@ -71,31 +82,18 @@ fn run_some(n: usize, bits: &[u64], fs: &[u64], k: usize, w: Run) -> Run
     if w.done {
         return w;
     }
-    let mut b = w.bit;
-    let mut passes = w.passes;
-    let mut looks = w.looks;
-    let mut left = k;
-    while 0 < left {
-        let p = run_pass(n, bits, fs, b);
-        passes = std::num::wrapping_add_u64(passes, 1);
-        looks = std::num::wrapping_add_u64(looks, p.looks);
+    let mut run = w;
+    for _ in 0..k {
+        let p = run_pass(n, bits, fs, run.bit);
+        run.passes = run.passes.wrapping_add(1);
+        run.looks = run.looks.wrapping_add(p.looks);
         if p.level <= move_table::LEVEL {
-            return Run {
-                bit: b,
-                passes,
-                looks,
-                done: true,
-            };
+            run.done = true;
+            return run;
         }
-        b = p.bit;
-        left -= 1;
+        run.bit = p.bit;
     }
-    Run {
-        bit: b,
-        passes,
-        looks,
-        done: false,
-    }
+    run
 }
 
 // Passes from the bit b until none gains: at most one more than there are requirements, since each that is followed by another meets more. They are
@@ -111,30 +109,21 @@ fn run_passes(n: usize, bits: &[u64], fs: &[u64], start: u64) -> Built
         done: false,
     };
     let mut w = run_some(n, bits, fs, 1, begun);
-    let mut i: usize = 0;
-    while 2 < fs.len() - i {
+    let (families, _) = fs.as_chunks::<3>();
+    for &[all, flip, out] in families {
         if w.done {
-            return Built {
-                bit: w.bit,
-                passes: w.passes,
-                looks: w.looks,
-            };
+            return Built::from(w);
         }
-        let k = bit_live::count_family(fs[i], fs[i + 1], fs[i + 2]);
+        let k = bit_live::count_family(all, flip, out);
         w = run_some(n, bits, fs, k as usize, w);
-        i += 3;
     }
     let last = run_some(n, bits, fs, bit_live::count_pairs(n, bits), w);
-    Built {
-        bit: last.bit,
-        passes: last.passes,
-        looks: last.looks,
-    }
+    Built::from(last)
 }
 
 // A bit built for the live requirements, from the bit `start`. Of more than 64 states the first 64 are moved.
 pub fn build_bit(n: usize, bits: &[u64], fs: &[u64], start: u64) -> Built
     ensures { result ≡ built_by n (live_in n bits.now fs.now) start }
 {
-    run_passes(sets::least(n, 64), bits, fs, start)
+    run_passes(n.min(64), bits, fs, start)
 }

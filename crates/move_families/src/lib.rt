@@ -52,7 +52,7 @@ pub fn fill_families(fs: &[u64], b: u64, t: &mut [u32])
 fn double(w: u32, v: u32) -> u32
     ensures { result ≡ (2 * w + (2 ^ 32 - v)) % 2 ^ 32 }
 {
-    ((2 * (w as u64) + (4294967296 - (v as u64))) % 4294967296) as u32
+    w.wrapping_mul(2).wrapping_sub(v)
 }
 
 // The change of the moved state's own level from v made twice.

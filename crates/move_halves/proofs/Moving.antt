@@ -47,6 +47,10 @@ member-by m own s fits e = go (has m s) refl (has-lt m s)
     go (suc (suc d)) h l = absurd (omega arith)
 
 -- tests as numbers
+pub number-of_test : (u : Bool) → bool_byte u ≡ cond u 1 0
+number-of_test true = refl
+number-of_test false = refl
+
 as_number : (p q u : Bool) → bit_and (bit_or (bool_byte p) (bool_byte q)) (bool_byte u) ≡ cond (u && (p || q)) 1 0
 as_number true true true = refl
 as_number true false true = refl

@@ -5,34 +5,18 @@ ghost use Rattle.std.specs.Prelude.{◌≡◌, true, ◌||◌, not, cond, eqb, l
 ghost use Rattle.sets.specs.Sets.{size};
 ghost use Rattle.move_halves.specs.Halves.{signed, side, worth, halved, near_at, swayed, looks_by, looks_of};
 
-// How many there are, if they count.
-fn counted(yes: bool, many: u32) -> usize
-    ensures { result ≡ cond yes many 0 }
-{
-    if yes {
-        return many as usize;
-    }
-    0
-}
-
 // How many states there are, if they count: they are counted only then.
 fn states_of(yes: bool, m: u64) -> usize
     ensures { result ≡ cond yes (size m) 0 }
 {
-    if yes {
-        return sets::size_of(m) as usize;
-    }
-    0
+    if yes { sets::size_of(m) as usize } else { 0 }
 }
 
 // x to be put on, or to be taken off, modulo 2 ^ 32.
 fn signed_of(on: bool, x: u32) -> u32
     ensures { result ≡ signed on x }
 {
-    if on {
-        return x;
-    }
-    ((4294967296 - (x as u64)) % 4294967296) as u32
+    if on { x } else { x.wrapping_neg() }
 }
 
 // Of the members in common, those that must change for first block 0 and second block 1.
@@ -46,10 +30,7 @@ pub fn side_of(all: u64, flip: u64, b: u64) -> u64
 pub fn worth_of(out: u64, right: u64) -> u32
     ensures { result ≡ worth out right }
 {
-    if out == 0 {
-        return 1;
-    }
-    sets::size_of(right)
+    if out == 0 { 1 } else { sets::size_of(right) }
 }
 
 // The shares of a half that is worth w, put on the table or taken off.
@@ -78,20 +59,14 @@ fn put_worth(on: bool, out: u64, all: u64, side: u64, right: u64, rest: u64, t: 
 fn near_of(x: u64, y: u64) -> bool
     ensures { result ≡ (leb (size x) 1 || leb (size y) 1) }
 {
-    if sets::few(x) {
-        return true;
-    }
-    sets::few(y)
+    sets::few(x) || sets::few(y)
 }
 
 // Whether a requirement that is right the one way round is looked at: at most one of x must change that way, or none of y the other way.
 fn seen_of(x: u64, y: u64) -> bool
     ensures { result ≡ (leb (size x) 1 || eqb (size y) 0) }
 {
-    if y == 0 {
-        return true;
-    }
-    sets::few(x)
+    y == 0 || sets::few(x)
 }
 
 // The looks at a family, in the move of a member in common, where x and y must change without it.
@@ -99,7 +74,7 @@ fn looks_by(out: u64, x: u64, y: u64, right: u64, rest: u64) -> usize
     ensures { result ≡ looks_by out (size x) (size y) right rest }
 {
     if out == 0 {
-        return counted(near_of(x, y), 1);
+        return near_of(x, y) as usize;
     }
     let one = states_of(seen_of(x, y), right);
     let other = states_of(seen_of(y, x), rest);
@@ -170,5 +145,5 @@ pub fn move_family(all: u64, flip: u64, out: u64, b: u64, s: usize, t: &mut [u32
         return 0;
     }
     move_out(!sets::member(b, s), all, x, y, own, t);
-    counted(near_of(x, y), 1)
+    near_of(x, y) as usize
 }

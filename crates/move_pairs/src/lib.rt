@@ -11,10 +11,11 @@ fn others_of(n: usize, s: usize) -> u64
     ensures { result ≡ others_of n s }
 {
     let everyone = sets::everyone_of(n);
-    if !sets::member(everyone, s) {
-        return 0;
+    if sets::member(everyone, s) {
+        sets::flipped(everyone, s)
+    } else {
+        0
     }
-    sets::flipped(everyone, s)
 }
 
 // Those of the states p that have the value of s at the bit b.
@@ -22,9 +23,10 @@ fn like_of(p: u64, b: u64, s: usize) -> u64
     ensures { result ≡ like_of p b s }
 {
     if sets::member(b, s) {
-        return p & b;
+        p & b
+    } else {
+        p ^ (p & b)
     }
-    p ^ (p & b)
 }
 
 // The partners of state s: the other states on which every bit has the value that it has on s. Once there is none, no bit brings one.
@@ -32,22 +34,13 @@ pub fn partners_of(n: usize, bits: &[u64], s: usize) -> u64
     ensures { result ≡ partners_of n bits.now s }
 {
     let mut p = others_of(n, s);
-    let mut i: usize = 0;
-    while i < bits.len() {
+    for &bit in bits {
         if p == 0 {
             return 0;
         }
-        p = like_of(p, bits[i], s);
-        i += 1;
+        p = like_of(p, bit, s);
     }
     p
-}
-
-// x - y, modulo 2 ^ 32.
-fn difference(x: u32, y: u32) -> u32
-    ensures { result ≡ (x + (2 ^ 32 - y)) % 2 ^ 32 }
-{
-    (((x as u64) + (4294967296 - (y as u64))) % 4294967296) as u32
 }
 
 // What the move of s changes, where these partners have its value and those have not.
@@ -56,7 +49,8 @@ fn put_pairs(like: u64, unlike: u64, s: usize, t: &mut [u32])
 {
     move_table::raise(t, like, 4294967294);
     move_table::raise(t, unlike, 2);
-    move_table::raise_one(t, s, difference(sets::size_of(unlike), sets::size_of(like)));
+    let many = sets::size_of(unlike);
+    move_table::raise_one(t, s, many.wrapping_sub(sets::size_of(like)));
 }
 
 // The move of s at the bit b, where p are the partners of s.
@@ -66,9 +60,9 @@ fn sway_partners(p: u64, b: u64, s: usize, t: &mut [u32])
     let ones = p & b;
     if sets::member(b, s) {
         put_pairs(ones, p ^ ones, s, t);
-        return;
+    } else {
+        put_pairs(p ^ ones, ones, s, t);
     }
-    put_pairs(p ^ ones, ones, s, t);
 }
 
 // The move of s at the bit b, for the live pairs, with the moved state's own change by half: every live pair of s is looked at.
@@ -87,21 +81,19 @@ fn add_pairs(p: u64, b: u64, i: usize, t: &mut [u32])
     let ones = p & b;
     let x = sets::size_of(ones);
     let y = sets::size_of(p ^ ones);
-    if sets::member(b, i) {
-        move_table::raise_one(t, i, difference(x, y));
-        return;
-    }
-    move_table::raise_one(t, i, difference(y, x));
+    let by = if sets::member(b, i) {
+        x.wrapping_sub(y)
+    } else {
+        y.wrapping_sub(x)
+    };
+    move_table::raise_one(t, i, by);
 }
 
 // What all the live pairs add to the table at the bit b.
 pub fn fill_pairs(n: usize, bits: &[u64], b: u64, t: &mut [u32])
     ensures { t.new ≡ filled (live_pairs n bits.now) b t.old }
 {
-    let last = sets::least(n, 64);
-    let mut i: usize = 0;
-    while i < last {
+    for i in 0..n.min(64) {
         add_pairs(partners_of(n, bits, i), b, i, t);
-        i += 1;
     }
 }

@@ -7,19 +7,12 @@ ghost use Rattle.move_table.specs.Table.{raised};
 // A level of the gain table for a gain of 0, far from both ends of its 32 digits.
 pub const LEVEL: u32 = 2147483648;
 
-// The sum, modulo 2 ^ 32.
-fn wrapped(a: u32, b: u32) -> u32
-    ensures { result ≡ (a + b) % 2 ^ 32 }
-{
-    (((a as u64) + (b as u64)) % 4294967296) as u32
-}
-
-// `by` added at state k, if the table has it.
+// `by` added at state k, if the table has it, modulo 2 ^ 32.
 pub fn raise_one(t: &mut [u32], k: usize, by: u32)
     ensures { t.new ≡ set t.old k ((get_or t.old k 0 + by) % 2 ^ 32) }
 {
     if k < t.len() {
-        t[k] = wrapped(t[k], by);
+        t[k] = t[k].wrapping_add(by);
     }
 }
 
@@ -39,8 +32,5 @@ pub fn raise(t: &mut [u32], m: u64, by: u32)
 pub fn level_at(t: &[u32], k: usize) -> u32
     ensures { result ≡ get_or t.now k 0 }
 {
-    if k < t.len() {
-        return t[k];
-    }
-    0
+    t.get(k).copied().unwrap_or(0)
 }

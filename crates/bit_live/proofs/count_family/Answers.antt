@@ -8,7 +8,7 @@ pub returns-then-out-eq0 : goal.returns-then-out-eq0
 returns-then-out-eq0 c =
     sym (count-single c.args.all c.args.flip c.args.out c.if-out-eq0.true)
 
-pub returns : goal.returns
-returns c =
+pub returns-else-out-eq0 : goal.returns-else-out-eq0
+returns-else-out-eq0 c =
     let a = c.args in
     c.size_of.ensures ∙ ap size c.without_of.ensures ∙ sym (count-group a.all a.flip a.out c.if-out-eq0.false c.ranges.out.fits)

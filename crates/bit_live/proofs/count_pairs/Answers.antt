@@ -16,7 +16,7 @@ pub loop-i-init : goal.loop-i-init
 loop-i-init c =
     let a = c.args in
     let z : 0 + pairsFrom a.n a.bits.now 0 ≡ pairsFrom a.n a.bits.now 0 = omega arith in
-    (z ∙ pairs_first a.n a.bits.now, c.least-last.ensures, omega arith, omega arith)
+    (z ∙ pairs_first a.n a.bits.now, omega arith)
 
 pub loop-i-preserved : goal.loop-i-preserved
 loop-i-preserved c =
@@ -24,13 +24,13 @@ loop-i-preserved c =
     let l = c.loop-i in
     let ea = c.without_of-above.ensures ∙ ap (without c.partners_of-p.result) c.everyone_of.ensures in
     let few = above-few a.n a.bits.now l.i _ _ c.partners_of-p.ensures ea in
-    let more = pairs-more a.n a.bits.now l.i _ _ (omega (arith, c.loop-i-test.true, l.invariant.1)) c.partners_of-p.ensures ea in
+    let more = pairs-more a.n a.bits.now l.i _ _ (omega (arith, c.loop-i-test.true, c.min-i-end.ensures)) c.partners_of-p.ensures ea in
     let e = next l.count (length (live_pairs a.n a.bits.now)) (pairsFrom a.n a.bits.now l.i) (pairsFrom a.n a.bits.now (l.i + 1)) c.size_of.result l.invariant.0
     (more ∙ ap (λ (x : ℕ). x + pairsFrom a.n a.bits.now (l.i + 1)) (sym c.size_of.ensures)) in
-    (e, l.invariant.1, omega (arith, c.loop-i-test.true), omega (arith, few, c.size_of.ensures, l.invariant.3))
+    (e, omega (arith, few, c.size_of.ensures, l.invariant.1))
 
 pub returns : goal.returns
 returns c =
     let a = c.args in
     let l = c.loop-i in
-    last_one l.count (length (live_pairs a.n a.bits.now)) (pairsFrom a.n a.bits.now l.i) l.invariant.0 (pairs_end a.n a.bits.now l.i (omega (arith, c.loop-i-test.false, l.invariant.1)))
+    last_one l.count (length (live_pairs a.n a.bits.now)) (pairsFrom a.n a.bits.now l.i) l.invariant.0 (pairs_end a.n a.bits.now l.i (omega (arith, c.loop-i-test.false, c.min-i-end.ensures)))

@@ -1,13 +1,9 @@
 -- `bit_live::count_pairs` meets its contract.
-use Rattle.std.proofs.Common.{◌≡◌, ◌+◌, ◌-◌, ◌*◌, ◌≤◌, min, length}
+use Rattle.std.proofs.Common.{◌≡◌, ◌+◌, ◌*◌, ◌≤◌, length}
 use Rattle.move_pairs.specs.Pairs.{live_pairs}
 use Rattle.bit_live.proofs.Counts.{pairsFrom}
 use Rattle.bit_live.proofs.count_pairs.Given as goal
 
 abbrev pub invariant-loop-i : goal.invariant-loop-i
 invariant-loop-i l =
-    (l.count + pairsFrom l.n l.bits l.i ≡ length (live_pairs l.n l.bits)) × (l.last ≡ min l.n 64) × (l.i ≤ l.last) × (l.count ≤ 64 * l.i)
-
-abbrev pub decreases-loop-i : goal.decreases-loop-i
-decreases-loop-i l =
-    l.last - l.i
+    (l.count + pairsFrom l.n l.bits l.i ≡ length (live_pairs l.n l.bits)) × (l.count ≤ 64 * l.i)

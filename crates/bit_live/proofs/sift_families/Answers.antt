@@ -1,15 +1,19 @@
 -- `bit_live::sift_families` meets its contract.
-use Rattle.bit_live.proofs.Sifting.{judged-next, judged-words, judged-families}
-use Rattle.std.proofs.Common.{◌-◌, ◌≤◌, length, arith}
+use Rattle.std.proofs.Common.{◌≡◌, ◌+◌, ◌*◌, ◌-◌, ◌≤◌, length, subst, arith}
+use Rattle.bit_live.proofs.Sifting.{Judged, judged-next, judged-words, judged-families}
 use Rattle.bit_live.proofs.sift_families.Goals as goal
 
-pub loop-fs-preserved : goal.loop-fs-preserved
-loop-fs-preserved c =
-    let l = c.loop-fs in
-    judged-next c.args.b c.args.fs.now l.i l.j l.fs l.invariant _ _ (omega (arith, c.loop-fs-test.true, l.invariant.long)) c.sift_family-j.ensures.0 c.sift_family-j.ensures.1
+pub loop-k-preserved : goal.loop-k-preserved
+loop-k-preserved c =
+    let a = c.args in
+    let l = c.loop-k in
+    let e : 3 * l.k + 3 ≡ 3 * (l.k + 1) = omega arith in
+    subst (λ i. Judged a.b a.fs.now i c.sift_family-j.result c.sift_family-j.new.fs) e
+    (judged-next a.b a.fs.now (3 * l.k) l.j l.fs l.invariant _ _ (omega (arith, c.loop-k-test.true)) c.sift_family-j.ensures.0 c.sift_family-j.ensures.1)
 
 pub returns : goal.returns
 returns c =
-    let l = c.loop-fs in
-    let e : length c.args.fs.now - l.i ≤ 2 = omega (arith, c.loop-fs-test.false, l.invariant.long) in
-    (judged-words c.args.b c.args.fs.now l.i l.j l.fs l.invariant e, judged-families c.args.b c.args.fs.now l.i l.j l.fs l.invariant e)
+    let a = c.args in
+    let l = c.loop-k in
+    let e : length a.fs.now - 3 * l.k ≤ 2 = omega (arith, c.loop-k-test.false) in
+    (judged-words a.b a.fs.now (3 * l.k) l.j l.fs l.invariant e, judged-families a.b a.fs.now (3 * l.k) l.j l.fs l.invariant e)

@@ -6,4 +6,4 @@ use Rattle.bit_passes.proofs.build_bit.Goals as goal
 pub returns : goal.returns
 returns c =
     let a = c.args in
-    c.run_passes.ensures ∙ built-is a.n c.least.result a.bits.now a.fs.now a.start c.least.ensures
+    c.run_passes.ensures ∙ built-is a.n c.min.result a.bits.now a.fs.now a.start c.min.ensures

@@ -9,6 +9,7 @@ use mathlib.Core.Path.{ap, ◌∙◌}
 use mathlib.Core.Bool.{Bool, true, false}
 use native.Mathlib.Omega.{arith}
 use borrow.Author.Tests.{eq-eqb, ne_eqb}
+use Rattle.move_halves.proofs.Moving.{number-of_test}
 use Rattle.move_halves.proofs.looks_by.Goals as goal
 
 at_most : (t : Bool) (m : ℕ) → cond t m 0 ≤ m
@@ -18,7 +19,7 @@ at_most false m = omega arith
 pub returns-then-out-eq0 : goal.returns-then-out-eq0
 unfolding looks_by
 returns-then-out-eq0 c =
-    rw (eq-eqb c.args.out 0 c.if-out-eq0.true) (c.counted.ensures ∙ ap (λ (t : Bool). cond t 1 0) c.near_of.ensures)
+    rw (eq-eqb c.args.out 0 c.if-out-eq0.true) (number-of_test c.near_of.result ∙ ap (λ (t : Bool). cond {A = ℕ} t 1 0) c.near_of.ensures)
 
 pub overflow_add-result : goal.overflow_add-result
 overflow_add-result c =

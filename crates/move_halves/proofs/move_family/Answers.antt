@@ -7,7 +7,7 @@ use borrow.Author.Tests.{eqb-true, eqb-false}
 use Rattle.sets.specs.Sets.{has, only}
 use Rattle.sets.proofs.Members.{has-lt}
 use Rattle.families.specs.Families.{without}
-use Rattle.move_halves.proofs.Moving.{member_below, move-missing, by-common, by-outside}
+use Rattle.move_halves.proofs.Moving.{number-of_test, member_below, move-missing, by-common, by-outside}
 use Rattle.move_halves.proofs.move_family.Goals as goal
 
 pub returns-then-member : goal.returns-then-member
@@ -33,4 +33,4 @@ returns c =
     let e : has a.out a.s ≡ 1 = eqb-true (has a.out a.s) 1 (sym c.member-2.ensures ∙ c.if-not-member.false) in
     let l : a.s < 64 = member_below a.out a.s c.ranges.out.fits e in
     let own = c.flipped-own.ensures.0 l ∙ xor_zero_l (only a.s) in
-    by-outside a.all a.flip a.out a.b a.s a.t.now _ _ (c.without_of-others.ensures ∙ ap (without a.all) own) c.side_of-x.ensures _ _ _ _ _ e (omega (arith, has-lt a.all a.s)) c.member-3.ensures own c.near_of.ensures c.counted.ensures c.move_out.ensures
+    by-outside a.all a.flip a.out a.b a.s a.t.now _ _ (c.without_of-others.ensures ∙ ap (without a.all) own) c.side_of-x.ensures _ _ _ _ _ e (omega (arith, has-lt a.all a.s)) c.member-3.ensures own c.near_of.ensures (number-of_test c.near_of.result) c.move_out.ensures

@@ -18,8 +18,8 @@ or-false false = refl
 
 pub returns-then-y-eq0 : goal.returns-then-y-eq0
 returns-then-y-eq0 c =
-    or-true (leb (size c.args.x) 1) ∙ ap (λ (u : Bool). leb (size c.args.x) 1 || u) (sym (size-test c.args.y c.ranges.y.fits ∙ eq-eqb c.args.y 0 c.if-y-eq0.true))
+    eq-eqb c.args.y 0 c.if-y-eq0.true ∙ or-true (leb (size c.args.x) 1) ∙ ap (λ (u : Bool). leb (size c.args.x) 1 || u) (sym (size-test c.args.y c.ranges.y.fits ∙ eq-eqb c.args.y 0 c.if-y-eq0.true))
 
-pub returns : goal.returns
-returns c =
+pub returns-else-y-eq0 : goal.returns-else-y-eq0
+returns-else-y-eq0 c =
     c.few.ensures ∙ or-false (leb (size c.args.x) 1) ∙ ap (λ (u : Bool). leb (size c.args.x) 1 || u) (sym (size-test c.args.y c.ranges.y.fits ∙ ne_eqb c.args.y 0 c.if-y-eq0.false))

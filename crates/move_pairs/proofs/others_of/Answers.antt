@@ -19,17 +19,17 @@ all-lt n =
     let l : min n 64 ≤ 64 = omega arith in
     lt_of_lt_of_le h (pow_mono l)
 
-pub returns-then-not-member : goal.returns-then-not-member
+pub returns-else-member : goal.returns-else-member
 unfolding others_of
-returns-then-not-member c =
+returns-else-member c =
     let a = c.args in
-    let e : eqb (has (everyone (min a.n 64)) a.s) 1 ≡ false = ap (λ (m : ℕ). eqb (has m a.s) 1) (sym c.everyone_of-everyone.ensures) ∙ sym c.member.ensures ∙ c.if-not-member.true in
+    let e : eqb (has (everyone (min a.n 64)) a.s) 1 ≡ false = ap (λ (m : ℕ). eqb (has m a.s) 1) (sym c.everyone_of-everyone.ensures) ∙ sym c.member.ensures ∙ c.if-member.false in
     rw e refl
 
-pub returns : goal.returns
+pub returns-then-member : goal.returns-then-member
 unfolding others_of
-returns c =
+returns-then-member c =
     let a = c.args in
-    let e : eqb (has (everyone (min a.n 64)) a.s) 1 ≡ true = ap (λ (m : ℕ). eqb (has m a.s) 1) (sym c.everyone_of-everyone.ensures) ∙ sym c.member.ensures ∙ c.if-not-member.false in
+    let e : eqb (has (everyone (min a.n 64)) a.s) 1 ≡ true = ap (λ (m : ℕ). eqb (has m a.s) 1) (sym c.everyone_of-everyone.ensures) ∙ sym c.member.ensures ∙ c.if-member.true in
     let l : a.s < 64 = member_below (everyone (min a.n 64)) a.s (all-lt a.n) (eqb-true (has (everyone (min a.n 64)) a.s) 1 e) in
     rw e (c.flipped.ensures.0 l ∙ ap (λ (m : ℕ). flip m a.s) c.everyone_of-everyone.ensures)

@@ -11,7 +11,6 @@ use Prim.Native.Nat.{ℕ, ◌≤◌, ◌<◌, ◌+◌}
 use mathlib.Core.Path.{◌≡◌, refl, sym, ap, ◌∙◌}
 use mathlib.Core.List.{List, [], ◌∷◌}
 use mathlib.Core.Bool.{Bool, true, false}
-use native.Mathlib.Omega.{arith}
 use lib.ListN.{length, drop, get_or}
 use Rattle.move_pairs.proofs.partners_of.Goals as goal
 
@@ -34,27 +33,26 @@ alike_end : (bits : List ℕ) (i s p : ℕ) → length bits ≤ i → alike_in (
 unfolding alike_in
 alike_end bits i s p h = ap (λ (l : List ℕ). alike_in l s p) (drop_of_length-le bits {i = i} h)
 
-pub loop-i-init : goal.loop-i-init
+pub loop-bit-init : goal.loop-bit-init
 unfolding partners_of
-loop-i-init c =
+loop-bit-init c =
     let a = c.args in
-    (ap (alike_in a.bits.now a.s) c.others_of-p.ensures, omega arith)
+    ap (alike_in a.bits.now a.s) c.others_of-p.ensures
 
 pub returns-then-p-eq0 : goal.returns-then-p-eq0
 returns-then-p-eq0 c =
     let a = c.args in
-    let l = c.loop-i in
-    sym (alike-none (drop l.i a.bits.now) a.s) ∙ ap (alike_in (drop l.i a.bits.now) a.s) (sym c.if-p-eq0.true) ∙ l.invariant.0
+    let l = c.loop-bit in
+    sym (alike-none (drop l.bit-index a.bits.now) a.s) ∙ ap (alike_in (drop l.bit-index a.bits.now) a.s) (sym c.if-p-eq0.true) ∙ l.invariant
 
-pub loop-i-preserved : goal.loop-i-preserved
-loop-i-preserved c =
+pub loop-bit-preserved : goal.loop-bit-preserved
+loop-bit-preserved c =
     let a = c.args in
-    let l = c.loop-i in
-    let more = c.loop-i-test.true in
-    (ap (alike_in (drop (l.i + 1) a.bits.now) a.s) c.like_of-p.ensures ∙ sym (alike-more a.bits.now l.i a.s l.p more) ∙ l.invariant.0, omega (arith, more))
+    let l = c.loop-bit in
+    ap (alike_in (drop (l.bit-index + 1) a.bits.now) a.s) c.like_of-p.ensures ∙ sym (alike-more a.bits.now l.bit-index a.s l.p c.loop-bit-test.true) ∙ l.invariant
 
 pub returns : goal.returns
 returns c =
     let a = c.args in
-    let l = c.loop-i in
-    sym (alike_end a.bits.now l.i a.s l.p c.loop-i-test.false) ∙ l.invariant.0
+    let l = c.loop-bit in
+    sym (alike_end a.bits.now l.bit-index a.s l.p c.loop-bit-test.false) ∙ l.invariant

@@ -13,9 +13,9 @@ returns-then-member c =
     let e : eqb (has a.b a.s) 1 ≡ true = sym c.member.ensures ∙ c.if-member.true in
     rw e c.put_pairs.ensures
 
-pub returns : goal.returns
+pub returns-else-member : goal.returns-else-member
 unfolding pairs_swayed
-returns c =
+returns-else-member c =
     let a = c.args in
     let e : eqb (has a.b a.s) 1 ≡ false = sym c.member.ensures ∙ c.if-member.false in
-    rw e c.put_pairs-2.ensures
+    rw e c.put_pairs-else-member.ensures
