@@ -12,6 +12,7 @@ ghost use Rattle.judge_search.specs.Rows.{all_row_places, says_words, lets, stan
 ghost use Rattle.judge_search.specs.Search.{differ, differs, fails_at, said_with, gathered_word, gathered_words, fails_over, kept_words, sure_words, turned_words, same_words, searched};
 
 use rules::{Fault, StateNumber};
+use std::array;
 
 // The words of a set of rows; of them the first are those of the listing's rows.
 pub const ROW_WORDS: usize = 7;
@@ -115,15 +116,7 @@ fn keep(rows: [u64; ROW_WORDS], words: &[u64], at: usize) -> [u64; ROW_WORDS]
     requires { at + 7 ≤ length words.now }
     ensures { result ≡ kept_words rows words.now at }
 {
-    [
-        rows[0] & words[at],
-        rows[1] & words[at + 1],
-        rows[2] & words[at + 2],
-        rows[3] & words[at + 3],
-        rows[4] & words[at + 4],
-        rows[5] & words[at + 5],
-        rows[6] & words[at + 6],
-    ]
+    array::from_fn(|q| rows[q] & words[at + q])
 }
 
 // Of a set of rows those that let both digits stand at each of so many inputs: they fire whatever the input is.
@@ -143,15 +136,7 @@ fn sure_of(rows: [u64; ROW_WORDS], cols: &[u64], inputs: usize) -> [u64; ROW_WOR
 fn turn(rows: [u64; ROW_WORDS], others: [u64; ROW_WORDS]) -> [u64; ROW_WORDS]
     ensures { result ≡ turned_words rows others }
 {
-    [
-        rows[0] ^ others[0],
-        rows[1] ^ others[1],
-        rows[2] ^ others[2],
-        rows[3] ^ others[3],
-        rows[4] ^ others[4],
-        rows[5] ^ others[5],
-        rows[6] ^ others[6],
-    ]
+    array::from_fn(|q| rows[q] ^ others[q])
 }
 
 // Of the inputs that begin as v says, the lowest at which the rows of the set that fire there do not say the same, with what the listing and the cover say
@@ -287,15 +272,7 @@ fn present_word(fires: &[u64; FIRES_WORDS], s: usize, q: usize) -> u64
 fn present_in(fires: &[u64; FIRES_WORDS], s: usize) -> [u64; ROW_WORDS]
     ensures { result ≡ present fires.now s }
 {
-    [
-        present_word(fires, s, 0),
-        present_word(fires, s, 1),
-        present_word(fires, s, 2),
-        present_word(fires, s, 3),
-        present_word(fires, s, 4),
-        present_word(fires, s, 5),
-        present_word(fires, s, 6),
-    ]
+    array::from_fn(|q| present_word(fires, s, q))
 }
 
 // The lowest of so many states, and for it the lowest input, at which the rows that fire do not say the same, by a search in each state.
