@@ -1,8 +1,9 @@
--- Rows that are backed, and rows that clash, step by step as loops and tests have them.
-use mathlib.Core.Path.{◌≡◌, sym, ap, ◌∙◌}
+-- Rows that are backed, and rows that clash, as iterators and tests have them.
+use Rattle.std.specs.List.{list_any, range_with_len}
+use mathlib.Core.Path.{◌≡◌, refl, sym, ap, ◌∙◌}
 use mathlib.Core.Bool.{Bool, true, false, ◌&&◌, ◌||◌, not}
 use mathlib.Core.List.{List}
-use Prim.Native.Nat.{ℕ, suc, ◌+◌, ◌-◌, ◌^◌, ◌≤◌, ◌<◌, min}
+use Prim.Native.Nat.{ℕ, zero, suc, ◌-◌, ◌^◌, ◌≤◌, ◌<◌, min}
 use native.Mathlib.Numerals.{add-one}
 use native.Mathlib.Omega.{arith}
 use lib.Bits.{bit_and, bit_or, bit_xor}
@@ -24,22 +25,10 @@ and-holds e f = rw e f
 
 -- ---- the rows of some, from the first on
 
-module _ (p : ℕ → Bool) (y to : ℕ) where
-  pub any_here : {b : Bool} → y < to → b ≡ p y → b ≡ true → true ≡ any_from p y (to - y)
-  unfolding any_from
-  any_here h e t =
-      let more : to - y ≡ suc (to - (y + 1)) = omega arith in
-      sym (ap (any_from p y) more ∙ ap (λ (b : Bool). b || any_from p (suc y) (to - (y + 1))) (sym e ∙ t))
-
-  pub any_next : {b : Bool} → y < to → b ≡ p y → b ≡ false → any_from p (y + 1) (to - (y + 1)) ≡ any_from p y (to - y)
-  unfolding any_from
-  any_next h e t =
-      let more : to - y ≡ suc (to - (y + 1)) = omega arith in
-      ap (λ (z : ℕ). any_from p z (to - (y + 1))) (add-one y) ∙ sym (ap (any_from p y) more ∙ ap (λ (b : Bool). b || any_from p (suc y) (to - (y + 1))) (sym e ∙ t))
-
-  pub any-over : to ≤ y → false ≡ any_from p y (to - y)
-  unfolding any_from
-  any-over h = let over : to - y ≡ 0 = omega arith in sym (ap (any_from p y) over)
+pub any-is : (p : ℕ → Bool) (a k : ℕ) → list_any p (range_with_len a k) ≡ any_from p a k
+unfolding any_from
+any-is p a zero = refl
+any-is p a (suc k) = ap (λ (b : Bool). p a || b) (ap (λ (z : ℕ). list_any p (range_with_len z k)) (add-one a) ∙ any-is p (suc a) k)
 
 -- ---- the mask of the inputs at which two rows differ
 

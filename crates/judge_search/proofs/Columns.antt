@@ -1,25 +1,24 @@
 -- The words of rows that have a property, row by row from the last as loops have them.
-use mathlib.Core.Path.{◌≡◌, refl, sym, ap, ap₂, ◌∙◌}
-use mathlib.Core.Bool.{Bool, true, false, ◌&&◌, ◌||◌}
+use mathlib.Core.Path.{◌≡◌, refl, sym, ap, ◌∙◌}
+use mathlib.Core.Bool.{Bool, true, false}
 use mathlib.Core.List.{List, [], ◌∷◌, map}
-use Prim.Native.Nat.{ℕ, zero, suc, ◌+◌, ◌*◌, ◌-◌, ◌/◌, ◌%◌, ◌^◌, ◌≤◌, ◌<◌, min}
+use Prim.Native.Nat.{ℕ, zero, suc, ◌+◌, ◌*◌, ◌-◌, ◌/◌, ◌%◌, ◌^◌, ◌≤◌, ◌<◌}
 use native.Mathlib.Nat.{pow-suc, zero-add}
 use native.Mathlib.Decide.{ℕ_discrete}
 use native.Mathlib.Omega.{arith}
-use lib.Bits.{bit_and, and_step, and_zero_l}
 use lib.Dec.{eqb}
 use lib.ListN.{length, get_or, set, length-map}
 use lib.Seq.{ext_get_or, get_or-set_same, get_or-set_other}
 use lib.Pow.{pow_mono}
-use borrow.Author.Tests.{eq-eqb, ne_eqb, eqb-true, eqb-false}
+use borrow.Author.Tests.{eqb-true, eqb-false}
 use Rattle.sets.specs.Sets.{has, states_from}
 use Rattle.sets.proofs.Members.{has-lt}
 use Rattle.rules.specs.Text.{digit}
 use Rattle.rules.proofs.Most.{states-length}
 use Rattle.rules.proofs.Agreeing.{each-state}
-use Rattle.judge_search.specs.Rows.{lets, stands, lets_digit, word_from, words_of, column_word, present_word, present}
+use Rattle.judge_search.specs.Rows.{word_from}
 
-digit-le : (b : Bool) → digit b ≤ 1
+pub digit-le : (b : Bool) → digit b ≤ 1
 digit-le true = omega arith
 digit-le false = omega arith
 
@@ -38,26 +37,6 @@ digit-has m j = go (eqb (has m j) 1) refl
     go : (b : Bool) → eqb (has m j) 1 ≡ b → digit b ≡ has m j
     go true e = digit-one m j e
     go false e = digit-none m j e
-
-module _ (fires : List ℕ) (j d r : ℕ) where
-  pub lets-dash : eqb (has (get_or fires (r * 3 + 1) 0) j) 1 ≡ true → 1 ≡ lets_digit fires j d r
-  unfolding lets_digit lets
-  lets-dash e = rw e
-
-  pub lets-same : {o : ℕ} → o ≡ has (get_or fires (r * 3) 0) j → eqb (has (get_or fires (r * 3 + 1) 0) j) 1 ≡ false → o ≡ d → 1 ≡ lets_digit fires j d r
-  unfolding lets_digit lets
-  lets-same q e f = rw (e, eq-eqb (has (get_or fires (r * 3) 0) j) d (sym q ∙ f))
-
-  pub lets-other : {o : ℕ} → o ≡ has (get_or fires (r * 3) 0) j → eqb (has (get_or fires (r * 3 + 1) 0) j) 1 ≡ false → (o ≡ d → ⊥) → 0 ≡ lets_digit fires j d r
-  unfolding lets_digit lets
-  lets-other q e f = rw (e, ne_eqb (has (get_or fires (r * 3) 0) j) d (λ g. f (q ∙ g)))
-
-pub lets-small : (fires : List ℕ) (j d r : ℕ) {o : ℕ} → o ≡ lets_digit fires j d r → o ≤ 1
-unfolding lets_digit
-lets-small fires j d r e = omega (arith, e, digit-le (lets fires j d r))
-
-pub digit-small : (m j : ℕ) {o : ℕ} → o ≡ has m j → o ≤ 1
-digit-small m j e = omega (arith, e, has-lt m j)
 
 -- ---- a word, from the last row
 

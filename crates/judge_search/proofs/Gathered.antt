@@ -1,15 +1,15 @@
 -- What rows say together, digit by digit: a digit is 1 where some row of them says it.
 use mathlib.Core.Path.{◌≡◌, refl, sym, ap, ap₂, ◌∙◌}
 use mathlib.Core.Bool.{Bool, true, false, ◌&&◌, ◌||◌, cond}
-use mathlib.Core.List.{List, [], ◌∷◌, map}
+use mathlib.Core.List.{List, [], ◌∷◌}
 use Prim.Native.Nat.{ℕ, zero, suc, ◌+◌, ◌*◌, ◌-◌, ◌≤◌, ◌<◌, max}
 use native.Mathlib.Nat.{zero-add}
 use native.Mathlib.Omega.{arith}
 use lib.Bits.{bit_or}
 use lib.Dec.{eqb}
 use lib.ListN.{length, get_or}
-use Rattle.sets.specs.Sets.{has, states_from}
-use Rattle.sets.proofs.Members.{has-lt, has-or, has-none}
+use Rattle.sets.specs.Sets.{has}
+use Rattle.sets.proofs.Members.{has-or, has-none}
 use Rattle.rules.specs.Text.{digit}
 use Rattle.rules.specs.Listing.{some}
 use Rattle.rules.proofs.Agreeing.{each-state}

@@ -1,22 +1,23 @@
 -- The search as it calls itself: a part that is decided, and the two halves of one that is not.
 use Rattle.std.specs.Prelude.{Option, Some, None}
+use Rattle.std.specs.Bool.{then_some}
+use Rattle.std.specs.Option.{is_some}
 use mathlib.Core.Path.{◌≡◌, refl, sym, ap, ap₂, ◌∙◌}
 use mathlib.Core.Bool.{Bool, true, false, cond}
-use mathlib.Core.List.{List, []}
+use mathlib.Core.List.{List}
 use Prim.Native.Nat.{ℕ, zero, suc, ◌+◌, ◌*◌, ◌-◌, ◌^◌, ◌≤◌, ◌<◌}
 use native.Mathlib.Nat.{pow-suc, le-mul_of_pos_right, mul-le-mul_right}
 use native.Mathlib.Omega.{arith}
-use Rattle.judge_search.specs.Search.{fails_over, kept_words, same_words, or_else, searched, told}
-use Rattle.judge_search.specs.declared.Found.{Found}
+use Rattle.judge_search.specs.Search.{fails_over, kept_words, same_words, or_else, searched}
 use Rattle.judge_search.specs.declared.Said.{Said}
 
 module _ (listing cover : Said) (says cols : List ℕ) (at v : ℕ) (rows : List ℕ) where
   -- no input is left
-  pub leaf : {b : Bool} {k : ℕ} → k ≡ 0 → b ≡ fails_over listing cover says rows → told (searched listing cover says cols at k v rows) ≡ cond b (Found.At v) Found.Nothing
-  unfolding searched told
-  leaf {b} z e = ap (λ (k : ℕ). told (searched listing cover says cols at k v rows)) z ∙ go (fails_over listing cover says rows) ∙ ap (λ (b : Bool). cond b (Found.At v) Found.Nothing) (sym e)
+  pub leaf : {b : Bool} {k : ℕ} → k ≡ 0 → b ≡ fails_over listing cover says rows → then_some b v ≡ searched listing cover says cols at k v rows
+  unfolding searched
+  leaf {b} z e = go b ∙ ap (λ (b : Bool). cond b (Some v) None) e ∙ sym (ap (λ (k : ℕ). searched listing cover says cols at k v rows) z)
     where
-      go : (b : Bool) → told (cond b (Some v) None) ≡ cond b (Found.At v) Found.Nothing
+      go : (b : Bool) → then_some b v ≡ cond b (Some v) None
       go true = refl
       go false = refl
 
@@ -37,30 +38,27 @@ module _ (listing cover : Said) (says cols : List ℕ) (at v : ℕ) (rows : List
         ap (λ (j : ℕ). searched listing cover says cols at j v rows) e ∙ ap₂ halves (sym is-low) (sym is-high)
 
     -- the first half has one
-    pub in-first : {f : Found} {w : ℕ} → f ≡ told first → f ≡ Found.At w → f ≡ told (searched listing cover says cols at k v rows)
-    unfolding told
-    in-first {f} {w} e q = e ∙ sym (ap told two ∙ go first (sym q ∙ e))
+    pub in-first : {f : Option ℕ} → f ≡ first → is_some f ≡ true → f ≡ searched listing cover says cols at k v rows
+    in-first {f} e q = e ∙ sym (two ∙ go first (ap is_some (sym e) ∙ q))
       where
-        go : (x : Option ℕ) → Found.At w ≡ told x → told (or_else x (cond (same_words low high) None second)) ≡ told x
+        go : (x : Option ℕ) → is_some x ≡ true → or_else x (cond (same_words low high) None second) ≡ x
         go (Some x) e = refl
-        go None e = absurd (let z : ◌≡◌ {A = ℕ} 0 1 = cc in omega arith)
+        go None e = cc
 
-    in-second : {f : Found} → f ≡ told first → f ≡ Found.Nothing → searched listing cover says cols at k v rows ≡ cond (same_words low high) None second
-    unfolding told
-    in-second e q = two ∙ go first (sym q ∙ e)
+    in-second : {f : Option ℕ} → f ≡ first → is_some f ≡ false → searched listing cover says cols at k v rows ≡ cond (same_words low high) None second
+    in-second {f} e q = two ∙ go first (ap is_some (sym e) ∙ q)
       where
-        go : (x : Option ℕ) → Found.Nothing ≡ told x → or_else x (cond (same_words low high) None second) ≡ cond (same_words low high) None second
-        go (Some x) e = absurd (let z : ◌≡◌ {A = ℕ} 0 1 = cc in omega arith)
+        go : (x : Option ℕ) → is_some x ≡ false → or_else x (cond (same_words low high) None second) ≡ cond (same_words low high) None second
+        go (Some x) e = cc
         go None e = refl
 
     -- the second is like it
-    pub like-first : {f : Found} → f ≡ told first → f ≡ Found.Nothing → same_words low high ≡ true → Found.Nothing ≡ told (searched listing cover says cols at k v rows)
-    unfolding told
-    like-first e q s = sym (ap told (in-second e q ∙ ap (λ (b : Bool). cond b None second) s))
+    pub like-first : {f : Option ℕ} → f ≡ first → is_some f ≡ false → same_words low high ≡ true → None ≡ searched listing cover says cols at k v rows
+    like-first e q s = sym (in-second e q ∙ ap (λ (b : Bool). cond b None second) s)
 
     -- or is searched
-    pub as-second : {f g : Found} → f ≡ told first → f ≡ Found.Nothing → same_words low high ≡ false → g ≡ told second → g ≡ told (searched listing cover says cols at k v rows)
-    as-second e q s r = r ∙ sym (ap told (in-second e q ∙ ap (λ (b : Bool). cond b None second) s))
+    pub as-second : {f g : Option ℕ} → f ≡ first → is_some f ≡ false → same_words low high ≡ false → g ≡ second → g ≡ searched listing cover says cols at k v rows
+    as-second e q s r = r ∙ sym (in-second e q ∙ ap (λ (b : Bool). cond b None second) s)
 
 -- ---- the numbers of both halves stay below 2^16
 

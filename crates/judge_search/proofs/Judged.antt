@@ -1,5 +1,5 @@
 -- Places that differ are places that do not agree: what is judged of masks is what 02 says of each place.
-use mathlib.Core.Path.{◌≡◌, refl, sym, ap, ap₂, ◌∙◌}
+use mathlib.Core.Path.{◌≡◌, refl, ap, ap₂, ◌∙◌}
 use mathlib.Core.Bool.{Bool, true, false, ◌&&◌, ◌||◌, not, cond}
 use mathlib.Core.List.{List}
 use Prim.Native.Nat.{ℕ, ◌+◌, ◌*◌}
@@ -14,7 +14,7 @@ use Rattle.rules.specs.Meaning.{Meaning, on, free, off, cover_says, place_agrees
 use Rattle.judge_search.specs.Search.{differ, differs, gathered_from, fails_with}
 use Rattle.judge_search.specs.Rows.{any_from, words_of}
 use Rattle.judge_search.specs.declared.Said.{Said}
-use Rattle.judge_search.proofs.Gathered.{part, saysIt, gathered-says}
+use Rattle.judge_search.proofs.Gathered.{gathered-says}
 
 -- what is meant of a place, against whether some firing row of a cover says 1 of it, and whether one says dash
 unfoldable pub agrees_by : Meaning → Bool → Bool → Bool

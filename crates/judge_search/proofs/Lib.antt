@@ -9,3 +9,4 @@ pub mod Judged
 pub mod Firing
 pub mod Backed
 pub mod RowByRow
+pub mod FromFn

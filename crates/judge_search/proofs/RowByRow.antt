@@ -1,4 +1,5 @@
 -- Where a listing and a cover are alike row by row, they say the same at every state and every input.
+use Rattle.std.specs.Prelude.{None}
 use mathlib.Core.Path.{◌≡◌, refl, sym, ap, ap₂, ◌∙◌}
 use mathlib.Core.Bool.{Bool, true, false, ◌&&◌, ◌||◌, not}
 use mathlib.Core.List.{List}
@@ -10,7 +11,7 @@ use lib.Bits.{bit_and}
 use lib.Dec.{eqb}
 use lib.ListN.{get_or}
 use borrow.Author.Tests.{eqb-true, eq-eqb, ne_eqb, not-true, not-false}
-use Rattle.sets.specs.Sets.{has, every}
+use Rattle.sets.specs.Sets.{has}
 use Rattle.sets.proofs.Every.{and_first, and_second, and_both, every-at, at_every}
 use Rattle.sets.proofs.Members.{has-lt, has-and, has-none}
 use Rattle.rules.specs.Check.{fault_from}

@@ -1,6 +1,6 @@
 -- State by state, the first where the search finds an input.
 use Rattle.std.specs.Prelude.{Option, Some, None}
-use mathlib.Core.Path.{◌≡◌, refl, sym, ap, ◌∙◌}
+use mathlib.Core.Path.{◌≡◌, sym, ap, ◌∙◌}
 use mathlib.Core.Bool.{Bool}
 use mathlib.Core.List.{List}
 use Prim.Native.Nat.{ℕ, suc, ◌+◌, ◌-◌, ◌*◌, ◌^◌, ◌≤◌, ◌<◌}
@@ -10,12 +10,10 @@ use lib.ListN.{length, length-map}
 use lib.Pow.{pow_mono}
 use Rattle.sets.specs.Sets.{states_from}
 use Rattle.rules.specs.Limits.{most_inputs}
-use Rattle.rules.specs.Check.{lowest_from, fault_from}
-use Rattle.rules.specs.declared.Fault.{Fault}
+use Rattle.rules.specs.Check.{lowest_from, fault_at, fault_from}
 use Rattle.rules.proofs.Most.{states-length}
 use Rattle.judge_search.specs.Rows.{column_word, columns}
-use Rattle.judge_search.specs.Search.{told, fails_at}
-use Rattle.judge_search.specs.declared.Found.{Found}
+use Rattle.judge_search.specs.Search.{fails_at}
 
 -- the first state of some
 faults : (p : ℕ → ℕ → Bool) (i s n : ℕ) → s < n → fault_from p i s (n - s) ≡ elim (lowest_from (p s) 0 (2 ^ i)) [ Some v ↦ fault_at s v | None ↦ fault_from p i (s + 1) (n - (s + 1)) ]
@@ -24,26 +22,16 @@ faults p i s n h =
     let more : n - s ≡ suc (n - (s + 1)) = omega arith in
     ap (fault_from p i s) more ∙ ap (λ (u : ℕ). elim (lowest_from (p s) 0 (2 ^ i)) [ Some v ↦ fault_at s v | None ↦ fault_from p i u (n - (s + 1)) ]) (sym (add-one s))
 
-told_at : (f : Option ℕ) (v : ℕ) → told f ≡ Found.At v → f ≡ Some v
-unfolding told
-told_at (Some x) v e = cc
-told_at None v e = absurd (let z : ◌≡◌ {A = ℕ} 0 1 = cc in omega arith)
-
-told_none : (f : Option ℕ) → told f ≡ Found.Nothing → f ≡ None
-unfolding told
-told_none (Some x) e = absurd (let z : ◌≡◌ {A = ℕ} 0 1 = cc in omega arith)
-told_none None e = refl
-
-module _ (fires says : List ℕ) (i s n : ℕ) {f : Found} (found : f ≡ told (lowest_from (fails_at fires says i s) 0 (2 ^ i))) where
-  pub state-fails : {v : ℕ} → s < n → f ≡ Found.At v → fault_at s v ≡ fault_from (fails_at fires says i) i s (n - s)
+module _ (fires says : List ℕ) (i s n : ℕ) {f : Option ℕ} (found : f ≡ lowest_from (fails_at fires says i s) 0 (2 ^ i)) where
+  pub state-fails : {v : ℕ} → s < n → f ≡ Some v → fault_at s v ≡ fault_from (fails_at fires says i) i s (n - s)
   state-fails {v} h e =
       sym (faults (fails_at fires says i) i s n h
-      ∙ ap (λ (x : Option ℕ). elim x [ Some v ↦ fault_at s v | None ↦ fault_from (fails_at fires says i) i (s + 1) (n - (s + 1)) ]) (told_at (lowest_from (fails_at fires says i s) 0 (2 ^ i)) v (sym found ∙ e)))
+      ∙ ap (λ (x : Option ℕ). elim x [ Some v ↦ fault_at s v | None ↦ fault_from (fails_at fires says i) i (s + 1) (n - (s + 1)) ]) (sym found ∙ e))
 
-  pub state-passes : s < n → f ≡ Found.Nothing → fault_from (fails_at fires says i) i (s + 1) (n - (s + 1)) ≡ fault_from (fails_at fires says i) i s (n - s)
+  pub state-passes : s < n → f ≡ None → fault_from (fails_at fires says i) i (s + 1) (n - (s + 1)) ≡ fault_from (fails_at fires says i) i s (n - s)
   state-passes h e =
       sym (faults (fails_at fires says i) i s n h
-      ∙ ap (λ (x : Option ℕ). elim x [ Some v ↦ fault_at s v | None ↦ fault_from (fails_at fires says i) i (s + 1) (n - (s + 1)) ]) (told_none (lowest_from (fails_at fires says i s) 0 (2 ^ i)) (sym found ∙ e)))
+      ∙ ap (λ (x : Option ℕ). elim x [ Some v ↦ fault_at s v | None ↦ fault_from (fails_at fires says i) i (s + 1) (n - (s + 1)) ]) (sym found ∙ e))
 
 pub states-over : (p : ℕ → ℕ → Bool) (i s n : ℕ) → n ≤ s → None ≡ fault_from p i s (n - s)
 unfolding fault_from

@@ -9,15 +9,16 @@ use native.Mathlib.Omega.{arith}
 use lib.Arith.{lt-one}
 use lib.Bits.{bit_and, bit_or, bit_xor, xor_shr, xor_zero_r, and_mask, or_lt, xor_lt, and_lt}
 use lib.Count.{count_trailing_zeros, under}
-use lib.Dec.{eqb, ltb}
+use lib.Dec.{eqb}
 use lib.ListN.{length, get_or}
-use borrow.Author.Tests.{eq-eqb, ne_eqb, eqb-true}
+use lib.Pointwise.{pointwise}
+use borrow.Author.Tests.{ne_eqb}
 use Rattle.sets.specs.Sets.{has, flip, every, states_from, without_lowest}
-use Rattle.sets.proofs.Every.{every-at, at_every, every-same}
+use Rattle.sets.proofs.Every.{every-same}
 use Rattle.sets.proofs.Members.{has-lt, has-and, has-or, has-xor, has-not, has-zero, has-flip, has-flip-other, half_lt, not-lt}
 use Rattle.sets.proofs.LowestMember.{without_at}
 use Rattle.sharing.proofs.Inputs.{none-low}
-use Rattle.judge_search.specs.Search.{differ, differs, said_with, gathered_word, gathered_words, gathered_from, kept_words, sure_words, turned_words, same_words}
+use Rattle.judge_search.specs.Search.{differ, differs, said_with, gathered_word, gathered_words, kept_words, sure_words, turned_words, same_words}
 use Rattle.judge_search.specs.declared.Said.{Said}
 
 -- ---- places that are not as meant
@@ -151,18 +152,18 @@ module _ (says rows : List ℕ) where
 
 -- ---- two sets of rows
 
-module _ (a b : List ℕ) where
-  pub words-differ : (q : ℕ) → q < 7 → (get_or a q 0 ≡ get_or b q 0 → ⊥) → same_words a b ≡ false
-  unfolding same_words
-  words-differ q h o = go (same_words a b) refl
-    where
-      go : (t : Bool) → same_words a b ≡ t → same_words a b ≡ false
-      go true e = absurd (o (eqb-true _ _ (every-at 7 (λ q. eqb (get_or a q 0) (get_or b q 0)) e q h)))
-      go false e = e
+every-place : (n : ℕ) (a b : List ℕ) → length a ≡ n → length b ≡ n → pointwise eqb a b ≡ every n (λ q. eqb (get_or a q 0) (get_or b q 0))
+unfolding every
+every-place zero [] [] h k = refl
+every-place zero (x ∷ a) b h k = absurd (omega arith)
+every-place zero [] (y ∷ b) h k = absurd (omega arith)
+every-place (suc n) [] b h k = absurd (omega arith)
+every-place (suc n) (x ∷ a) [] h k = absurd (omega arith)
+every-place (suc n) (x ∷ a) (y ∷ b) h k = ap (λ (t : Bool). eqb x y && t) (every-place n a b (omega arith) (omega arith))
 
-  pub words_same : ((q : ℕ) → q < 7 → get_or a q 0 ≡ get_or b q 0) → same_words a b ≡ true
-  unfolding same_words
-  words_same h = at_every 7 (λ q. eqb (get_or a q 0) (get_or b q 0)) (λ q l. eq-eqb _ _ (h q l))
+pub same-is : (a b : List ℕ) → length a ≡ 7 → length b ≡ 7 → pointwise eqb a b ≡ same_words a b
+unfolding same_words
+same-is = every-place 7
 
 -- of a set, the rows that are in words too
 module _ (rows words : List ℕ) (at : ℕ) where

@@ -1,11 +1,9 @@
 -- A search by inputs, from the leftmost on, 0 before 1, that keeps the rows that can still fire; where both halves keep the same rows, one is looked at.
-use Rattle.std.specs.Prelude.{Bool, true, false, ◌&&◌, ◌||◌, not, cond, List, [], ◌∷◌, map, ℕ, zero, suc, ◌+◌, ◌*◌, ◌-◌, ◌/◌, ◌%◌, eqb, get_or, Option, Some, None}
+use Rattle.std.specs.Prelude.{Bool, ◌&&◌, ◌||◌, not, cond, List, map, ℕ, zero, suc, ◌+◌, ◌*◌, ◌-◌, ◌/◌, ◌%◌, eqb, get_or, Option, Some, None}
 use Rattle.std.specs.Int.Bits.{bit_and, bit_or, bit_xor}
 use Rattle.sets.specs.Sets.{has, every, states_from}
-use Rattle.rules.specs.Text.{same}
 use Rattle.judge_search.specs.Rows.{row_fires, words_of}
 use Rattle.judge_search.specs.declared.Said.{Said}
-use Rattle.judge_search.specs.declared.Found.{Found}
 
 -- ---- what rows say
 
@@ -90,10 +88,6 @@ searched l c says cols at (suc k) v rows =
     let low : List ℕ = kept_words rows cols at in
     let high : List ℕ = kept_words rows cols (at + 7) in
     or_else (searched l c says cols (at + 14) k (v * 2) low) (cond (same_words low high) None (searched l c says cols (at + 14) k (v * 2 + 1) high))
-
-unfoldable pub told : Option ℕ → Found
-told (Some v) = Found.At v
-told None = Found.Nothing
 
 -- ---- what is searched for: at the state s and the inputs that v is as a number, what the rows say that fire
 unfoldable pub fails_at : List ℕ → List ℕ → ℕ → ℕ → ℕ → Bool

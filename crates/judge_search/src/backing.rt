@@ -15,6 +15,27 @@ pub struct Sayings {
     pub to: usize,
 }
 
+// A number of the listing's rows, and of the cover's.
+fn of_listing(number: usize) -> Sayings
+    ensures { result ≡ of_listing number }
+{
+    Sayings {
+        number,
+        from: 0,
+        to: LISTING_ROWS,
+    }
+}
+
+fn of_cover(number: usize) -> Sayings
+    ensures { result ≡ of_cover number }
+{
+    Sayings {
+        number,
+        from: LISTING_ROWS,
+        to: ALL_ROWS,
+    }
+}
+
 // Whether all members of a set are members of another.
 fn is_within(a: u64, b: u64) -> bool
     ensures { result ≡ within a b }
@@ -57,16 +78,7 @@ fn is_backed(
     requires { (f < 4) × (by.number < 4) × (by.to ≤ all_row_places) × (x < all_row_places) }
     ensures { result ≡ backed fires.now says.now f by x }
 {
-    let g = by.number;
-    let to = by.to;
-    let mut y = by.from;
-    while y < to {
-        if is_backed_by(fires, says, f, g, x, y) {
-            return true;
-        }
-        y += 1;
-    }
-    false
+    (by.from..by.to).any(|y| is_backed_by(fires, says, f, by.number, x, y))
 }
 
 // Whether row x fires somewhere, and says in its number f what none of those rows says.
@@ -99,16 +111,7 @@ fn has_unbacked(
     requires { (of.number < 4) × (of.to ≤ all_row_places) × (by.number < 4) × (by.to ≤ all_row_places) }
     ensures { result ≡ any_unbacked fires.now says.now of by }
 {
-    let f = of.number;
-    let to = of.to;
-    let mut x = of.from;
-    while x < to {
-        if is_unbacked(fires, says, f, by, x) {
-            return true;
-        }
-        x += 1;
-    }
-    false
+    (of.from..of.to).any(|x| is_unbacked(fires, says, of.number, by, x))
 }
 
 // Whether a row of the cover says in its number f what no row of the listing says in its number g.
@@ -116,17 +119,7 @@ fn adds(fires: &[u64; FIRES_WORDS], says: &[u64; SAYS_WORDS], f: usize, g: usize
     requires { (f < 4) × (g < 4) }
     ensures { result ≡ any_unbacked fires.now says.now (of_cover f) (of_listing g) }
 {
-    let of = Sayings {
-        number: f,
-        from: LISTING_ROWS,
-        to: ALL_ROWS,
-    };
-    let by = Sayings {
-        number: g,
-        from: 0,
-        to: LISTING_ROWS,
-    };
-    has_unbacked(fires, says, of, by)
+    has_unbacked(fires, says, of_cover(f), of_listing(g))
 }
 
 // Whether a row of the listing says in its number f what no row of the cover says in its number g.
@@ -134,34 +127,19 @@ fn drops(fires: &[u64; FIRES_WORDS], says: &[u64; SAYS_WORDS], f: usize, g: usiz
     requires { (f < 4) × (g < 4) }
     ensures { result ≡ any_unbacked fires.now says.now (of_listing f) (of_cover g) }
 {
-    let of = Sayings {
-        number: f,
-        from: 0,
-        to: LISTING_ROWS,
-    };
-    let by = Sayings {
-        number: g,
-        from: LISTING_ROWS,
-        to: ALL_ROWS,
-    };
-    has_unbacked(fires, says, of, by)
+    has_unbacked(fires, says, of_listing(f), of_cover(g))
 }
 
 // Whether a row of the cover says a dash of a bit of the next code: there are no rows that could back it.
 fn has_next_dash(fires: &[u64; FIRES_WORDS], says: &[u64; SAYS_WORDS]) -> bool
     ensures { result ≡ any_unbacked fires.now says.now (of_cover 1) no_sayings }
 {
-    let of = Sayings {
-        number: 1,
-        from: LISTING_ROWS,
-        to: ALL_ROWS,
-    };
-    let by = Sayings {
+    let none = Sayings {
         number: 0,
         from: 0,
         to: 0,
     };
-    has_unbacked(fires, says, of, by)
+    has_unbacked(fires, says, of_cover(1), none)
 }
 
 // Whether two rows let some input stand both, of so many inputs: a and b are those that are 1 in the one and in the other, c and d those that
@@ -211,14 +189,7 @@ fn is_clashing(
     requires { (inputs ≤ most_inputs) × (x < all_row_places) }
     ensures { result ≡ clashes fires.now says.now inputs x }
 {
-    let mut y: usize = 0;
-    while y < LISTING_ROWS {
-        if is_clash(fires, says, inputs, x, y) {
-            return true;
-        }
-        y += 1;
-    }
-    false
+    (0..LISTING_ROWS).any(|y| is_clash(fires, says, inputs, x, y))
 }
 
 // Whether a row of the cover is such a row x.
@@ -226,14 +197,7 @@ fn has_clash(fires: &[u64; FIRES_WORDS], says: &[u64; SAYS_WORDS], inputs: usize
     requires { inputs ≤ most_inputs }
     ensures { result ≡ any_clash fires.now says.now inputs }
 {
-    let mut x = LISTING_ROWS;
-    while x < ALL_ROWS {
-        if is_clashing(fires, says, inputs, x) {
-            return true;
-        }
-        x += 1;
-    }
-    false
+    (LISTING_ROWS..ALL_ROWS).any(|x| is_clashing(fires, says, inputs, x))
 }
 
 // Whether the two are alike row by row: the outputs that are 1 and those that are dashes, the next code, and the outputs and the code back.
@@ -241,6 +205,7 @@ pub fn is_row_by_row(fires: &[u64; FIRES_WORDS], says: &[u64; SAYS_WORDS], input
     requires { inputs ≤ most_inputs }
     ensures { result ≡ row_by_row fires.now says.now inputs }
 {
+    // One test after the other, and not seven joined by `&&`: a proof of the joined form has to put the seven together again.
     if adds(fires, says, 2, 2) {
         return false;
     }

@@ -4,14 +4,15 @@
 
 mod backing;
 
-ghost use Rattle.std.specs.Prelude.{◌≡◌, ◌+◌, ◌*◌, ◌-◌, ◌^◌, ◌≤◌, ◌<◌, min, length};
+ghost use Rattle.std.specs.Prelude.{◌≡◌, ◌+◌, ◌*◌, ◌-◌, ◌^◌, ◌≤◌, ◌<◌, min, length, ℕ, Bool};
 ghost use Rattle.rules.specs.Limits.{most_inputs};
 ghost use Rattle.sets.specs.Sets.{has};
 ghost use Rattle.rules.specs.Check.{lowest_from, fault_from};
-ghost use Rattle.judge_search.specs.Rows.{all_row_places, says_words, lets_digit, column_word, columns, present_word, present};
-ghost use Rattle.judge_search.specs.Search.{differ, differs, fails_at, said_with, gathered_word, gathered_words, fails_over, kept_words, sure_words, turned_words, same_words, told, searched};
+ghost use Rattle.judge_search.specs.Rows.{all_row_places, says_words, lets, stands, word_from, column_word, columns, present_word, present};
+ghost use Rattle.judge_search.specs.Search.{differ, differs, fails_at, said_with, gathered_word, gathered_words, fails_over, kept_words, sure_words, turned_words, same_words, searched};
 
 use rules::{Fault, StateNumber};
+use std::array;
 
 // The words of a set of rows; of them the first are those of the listing's rows.
 pub const ROW_WORDS: usize = 7;
@@ -42,13 +43,6 @@ pub struct Said {
     pub d: u64,
 }
 
-// The lowest input that was looked for, or that there is none.
-#[derive(Clone, Copy)]
-pub enum Found {
-    At(usize),
-    Nothing,
-}
-
 // Whether places are not as they are meant: where one is meant to be 1 it is said to be 1 and no dash; where it is meant to be free, anything; else it is
 // said to be neither.
 fn is_unlike(on: u64, free: u64, ones: u64, dashes: u64) -> bool
@@ -62,13 +56,8 @@ fn is_unlike(on: u64, free: u64, ones: u64, dashes: u64) -> bool
 fn are_unlike(listing: Said, cover: Said) -> bool
     ensures { result ≡ differs listing cover }
 {
-    if is_unlike(listing.c, listing.d, cover.c, cover.d) {
-        return true;
-    }
-    if listing.a == 0 {
-        return false;
-    }
-    is_unlike(listing.b, 0, cover.a, cover.b)
+    is_unlike(listing.c, listing.d, cover.c, cover.d)
+        || (listing.a != 0 && is_unlike(listing.b, 0, cover.a, cover.b))
 }
 
 // What is said with what that row says.
@@ -106,10 +95,8 @@ fn gather(says: &[u64], rows: [u64; ROW_WORDS], from: usize, to: usize, said: Sa
     ensures { result ≡ gathered_words says.now rows from (to - from) said }
 {
     let mut all = said;
-    let mut q = from;
-    while q < to {
+    for q in from..to {
         all = gather_word(says, q * 64, rows[q], all);
-        q += 1;
     }
     all
 }
@@ -129,15 +116,7 @@ fn keep(rows: [u64; ROW_WORDS], words: &[u64], at: usize) -> [u64; ROW_WORDS]
     requires { at + 7 ≤ length words.now }
     ensures { result ≡ kept_words rows words.now at }
 {
-    [
-        rows[0] & words[at],
-        rows[1] & words[at + 1],
-        rows[2] & words[at + 2],
-        rows[3] & words[at + 3],
-        rows[4] & words[at + 4],
-        rows[5] & words[at + 5],
-        rows[6] & words[at + 6],
-    ]
+    array::from_fn(|q| rows[q] & words[at + q])
 }
 
 // Of a set of rows those that let both digits stand at each of so many inputs: they fire whatever the input is.
@@ -146,11 +125,9 @@ fn sure_of(rows: [u64; ROW_WORDS], cols: &[u64], inputs: usize) -> [u64; ROW_WOR
     ensures { result ≡ sure_words rows cols.now 0 inputs }
 {
     let mut sure = rows;
-    let mut j: usize = 0;
-    while j < inputs {
+    for j in 0..inputs {
         let low = keep(sure, cols, j * 14);
         sure = keep(low, cols, j * 14 + 7);
-        j += 1;
     }
     sure
 }
@@ -159,29 +136,7 @@ fn sure_of(rows: [u64; ROW_WORDS], cols: &[u64], inputs: usize) -> [u64; ROW_WOR
 fn turn(rows: [u64; ROW_WORDS], others: [u64; ROW_WORDS]) -> [u64; ROW_WORDS]
     ensures { result ≡ turned_words rows others }
 {
-    [
-        rows[0] ^ others[0],
-        rows[1] ^ others[1],
-        rows[2] ^ others[2],
-        rows[3] ^ others[3],
-        rows[4] ^ others[4],
-        rows[5] ^ others[5],
-        rows[6] ^ others[6],
-    ]
-}
-
-// Whether two sets of rows are the same.
-fn are_same(a: [u64; ROW_WORDS], b: [u64; ROW_WORDS]) -> bool
-    ensures { result ≡ same_words a b }
-{
-    let mut q: usize = 0;
-    while q < ROW_WORDS {
-        if a[q] != b[q] {
-            return false;
-        }
-        q += 1;
-    }
-    true
+    array::from_fn(|q| rows[q] ^ others[q])
 }
 
 // Of the inputs that begin as v says, the lowest at which the rows of the set that fire there do not say the same, with what the listing and the cover say
@@ -196,24 +151,21 @@ fn search(
     left: usize,
     v: usize,
     rows: [u64; ROW_WORDS],
-) -> Found
+) -> Option<usize>
     requires { (says_words ≤ length says.now) × (at + left * 14 ≤ length cols.now) × ((v + 1) * 2 ^ left ≤ 65536) }
-    ensures { result ≡ told (searched listing cover says.now cols.now at left v rows) }
+    ensures { result ≡ searched listing cover says.now cols.now at left v rows }
 {
     if left == 0 {
-        if is_failing(says, listing, cover, rows) {
-            return Found::At(v);
-        }
-        return Found::Nothing;
+        return is_failing(says, listing, cover, rows).then_some(v);
     }
     let low = keep(rows, cols, at);
     let first = search(says, cols, listing, cover, at + 14, left - 1, v * 2, low);
-    let Found::Nothing = first else {
+    if first.is_some() {
         return first;
-    };
+    }
     let high = keep(rows, cols, at + 7);
-    if are_same(low, high) {
-        return Found::Nothing;
+    if low == high {
+        return None;
     }
     search(
         says,
@@ -234,9 +186,9 @@ fn search_state(
     cols: &[u64],
     s: usize,
     inputs: usize,
-) -> Found
+) -> Option<usize>
     requires { (says_words ≤ length says.now) × (cols.now ≡ columns fires.now) × (inputs ≤ most_inputs) }
-    ensures { result ≡ told (lowest_from (fails_at fires.now says.now inputs s) 0 (2 ^ inputs)) }
+    ensures { result ≡ lowest_from (fails_at fires.now says.now inputs s) 0 (2 ^ inputs) }
 {
     let rows = present_in(fires, s);
     let sure = sure_of(rows, cols, inputs);
@@ -255,25 +207,37 @@ fn search_state(
 pub fn digit_at(m: u64, j: usize) -> u64
     ensures { result ≡ has m j }
 {
-    if sets::member(m, j) {
-        return 1;
-    }
-    0
+    u64::from(sets::member(m, j))
 }
 
-// 1 where a row lets the digit d stand at the input j.
-fn lets_digit(fires: &[u64; FIRES_WORDS], row: usize, j: usize, d: u64) -> u64
+// Whether a row lets the digit d stand at the input j.
+fn lets(fires: &[u64; FIRES_WORDS], row: usize, j: usize, d: u64) -> bool
     requires { row < all_row_places }
-    ensures { result ≡ lets_digit fires.now j d row }
+    ensures { result ≡ lets fires.now j d row }
 {
     let at = row * 3;
-    if sets::member(fires[at + 1], j) {
-        return 1;
+    sets::member(fires[at + 1], j) || digit_at(fires[at], j) == d
+}
+
+// Whether a row fires in the state s.
+fn stands(fires: &[u64; FIRES_WORDS], row: usize, s: usize) -> bool
+    requires { row < all_row_places }
+    ensures { result ≡ stands fires.now s row }
+{
+    sets::member(fires[row * 3 + 2], s)
+}
+
+// Of 64 rows from that one on those that pass a test, as a word with the first of them at the lowest digit.
+fn word_of<F: Fn(usize) -> bool + Drop>(from: usize, test: F) -> u64
+    requires room { from + 64 ≤ all_row_places }
+    requires callable { (k : ℕ) → k < from + 64 → F.pre test k }
+    ensures { (p : ℕ → Bool) → ((k : ℕ) (b : Bool) → F.post test k b → b ≡ p k) → result ≡ word_from p from 64 }
+{
+    let mut word: u64 = 0;
+    for k in (0..64).rev() {
+        word = word * 2 + u64::from(test(from + k));
     }
-    if digit_at(fires[at], j) == d {
-        return 1;
-    }
-    0
+    word
 }
 
 // A word of the columns: of 64 rows those that let a digit stand at an input.
@@ -282,14 +246,7 @@ fn column_word(fires: &[u64; FIRES_WORDS], w: usize) -> u64
 {
     let j = w / 14;
     let d = (w % 14 / 7) as u64;
-    let from = w % 7 * 64;
-    let mut word: u64 = 0;
-    let mut k: usize = 64;
-    while 0 < k {
-        k -= 1;
-        word = word * 2 + lets_digit(fires, from + k, j, d);
-    }
-    word
+    word_of(w % 7 * 64, |row| lets(fires, row, j, d))
 }
 
 // All columns.
@@ -297,10 +254,8 @@ fn columns_of(fires: &[u64; FIRES_WORDS]) -> [u64; COLUMN_WORDS]
     ensures { result ≡ columns fires.now }
 {
     let mut cols = [0u64; COLUMN_WORDS];
-    let mut w: usize = 0;
-    while w < COLUMN_WORDS {
-        cols[w] = column_word(fires, w);
-        w += 1;
+    for (w, word) in cols.iter_mut().enumerate() {
+        *word = column_word(fires, w);
     }
     cols
 }
@@ -310,29 +265,14 @@ fn present_word(fires: &[u64; FIRES_WORDS], s: usize, q: usize) -> u64
     requires { q < 7 }
     ensures { result ≡ present_word fires.now s q }
 {
-    let from = q * 64;
-    let mut word: u64 = 0;
-    let mut k: usize = 64;
-    while 0 < k {
-        k -= 1;
-        word = word * 2 + digit_at(fires[(from + k) * 3 + 2], s);
-    }
-    word
+    word_of(q * 64, |row| stands(fires, row, s))
 }
 
 // The rows that fire in the state s.
 fn present_in(fires: &[u64; FIRES_WORDS], s: usize) -> [u64; ROW_WORDS]
     ensures { result ≡ present fires.now s }
 {
-    [
-        present_word(fires, s, 0),
-        present_word(fires, s, 1),
-        present_word(fires, s, 2),
-        present_word(fires, s, 3),
-        present_word(fires, s, 4),
-        present_word(fires, s, 5),
-        present_word(fires, s, 6),
-    ]
+    array::from_fn(|q| present_word(fires, s, q))
 }
 
 // The lowest of so many states, and for it the lowest input, at which the rows that fire do not say the same, by a search in each state.
@@ -341,20 +281,20 @@ fn search_states(
     says: &[u64; SAYS_WORDS],
     states: usize,
     inputs: usize,
-) -> Fault
+) -> Option<Fault>
     ensures { result ≡ fault_from (fails_at fires.now says.now (min inputs most_inputs)) (min inputs most_inputs) 0 states }
 {
     let n = sets::least(inputs, rules::MOST_INPUTS);
     let cols = columns_of(fires);
-    let mut s: usize = 0;
-    while s < states {
-        let found = search_state(fires, says, &cols, s, n);
-        if let Found::At(v) = found {
-            return Fault::At(StateNumber(s), v);
+    for s in 0..states {
+        if let Some(input) = search_state(fires, says, &cols, s, n) {
+            return Some(Fault {
+                state: StateNumber(s),
+                input,
+            });
         }
-        s += 1;
     }
-    Fault::Nowhere
+    None
 }
 
 // The lowest of so many states, and for it the lowest input, the leftmost its highest digit, at which the rows that fire do not say the same; of more
@@ -364,12 +304,12 @@ pub fn find_fault(
     says: &[u64; SAYS_WORDS],
     states: usize,
     inputs: usize,
-) -> Fault
+) -> Option<Fault>
     ensures { result ≡ fault_from (fails_at fires.now says.now (min inputs most_inputs)) (min inputs most_inputs) 0 states }
 {
     let n = sets::least(inputs, rules::MOST_INPUTS);
     if backing::is_row_by_row(fires, says, n) {
-        return Fault::Nowhere;
+        return None;
     }
     search_states(fires, says, states, inputs)
 }

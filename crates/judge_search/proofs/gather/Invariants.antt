@@ -6,6 +6,3 @@ use Rattle.judge_search.proofs.gather.Given as goal
 
 abbrev pub invariant-loop-q : goal.invariant-loop-q
 invariant-loop-q l = gathered_words l.says l.rows l.q (l.to - l.q) l.all ≡ gathered_words l.says l.rows l.from (l.to - l.from) l.initial.all
-
-abbrev pub decreases-loop-q : goal.decreases-loop-q
-decreases-loop-q l = l.to - l.q

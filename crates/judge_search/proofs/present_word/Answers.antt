@@ -1,31 +1,8 @@
--- `judge_search::present_word` meets its contract: the word stands for the rows from k on.
-use mathlib.Core.Path.{sym, ◌∙◌}
-use native.Mathlib.Omega.{arith}
+-- `judge_search::present_word` meets its contract.
+use borrow.Author.Rules.{rules}
 use Rattle.judge_search.specs.Rows.{stands, present_word}
-use Rattle.judge_search.proofs.Columns.{digit-has, digit-small, word_end, word_room, word_back, word-all}
 use Rattle.judge_search.proofs.present_word.Goals as goal
-
-pub loop-k-init : goal.loop-k-init
-loop-k-init c = (omega arith, word_end _ _)
-
-pub overflow_mul-word : goal.overflow_mul-word
-overflow_mul-word c =
-    let l = c.loop-k in
-    omega (arith, word_room _ _ l.k (omega arith) l.invariant.0 l.invariant.1)
-
-pub overflow_add-word : goal.overflow_add-word
-overflow_add-word c =
-    let l = c.loop-k in
-    omega (arith, digit-small _ _ c.digit_at.ensures, word_room _ _ l.k (omega arith) l.invariant.0 l.invariant.1)
-
-pub loop-k-preserved : goal.loop-k-preserved
-unfolding stands
-loop-k-preserved c =
-    let l = c.loop-k in
-    (omega arith, word_back _ _ l.k (omega arith) l.invariant.0 l.invariant.1 (c.digit_at.ensures ∙ sym (digit-has _ _)))
 
 pub returns : goal.returns
 unfolding present_word
-returns c =
-    let l = c.loop-k in
-    word-all _ _ l.k (omega (arith, c.loop-k-test.false)) l.invariant.1
+returns c = c.word_of.ensures (stands c.args.fires.now c.args.s) (λ k b h. search rules)

@@ -1,7 +1,7 @@
 -- `judge_search::search_state` meets its contract.
-use mathlib.Core.Path.{ap, ◌∙◌}
+use mathlib.Core.Path.{◌∙◌}
 use native.Mathlib.Omega.{arith}
-use Rattle.judge_search.specs.Search.{told, gathered_from}
+use Rattle.judge_search.specs.Search.{gathered_from}
 use Rattle.judge_search.proofs.Sure.{finds}
 use Rattle.judge_search.proofs.States.{inputs-small, columns-long}
 use Rattle.judge_search.proofs.search_state.Goals as goal
@@ -17,4 +17,4 @@ search-requires c =
 pub returns : goal.returns
 unfolding gathered_from
 returns c =
-    c.search.ensures ∙ ap told (finds c.args.fires.now c.args.says.now c.args.inputs c.args.s c.requires.2 c.requires.1 c.present_in-rows.ensures c.sure_of-sure.ensures c.turn.ensures c.gather-listing.ensures c.gather-cover.ensures)
+    c.search.ensures ∙ finds c.args.fires.now c.args.says.now c.args.inputs c.args.s c.requires.2 c.requires.1 c.present_in-rows.ensures c.sure_of-sure.ensures c.turn.ensures c.gather-listing.ensures c.gather-cover.ensures

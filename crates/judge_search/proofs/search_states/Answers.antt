@@ -4,15 +4,15 @@ use native.Mathlib.Omega.{arith}
 use Rattle.judge_search.proofs.States.{state-fails, state-passes, states-over}
 use Rattle.judge_search.proofs.search_states.Goals as goal
 
-pub returns-in-At : goal.returns-in-At
-returns-in-At c =
+pub returns-in-Some : goal.returns-in-Some
+returns-in-Some c =
     let a = c.args in
-    state-fails a.fires.now a.says.now c.least-n.result c.loop-s.s a.states c.search_state-found.ensures c.loop-s-test.true c.in-At.is ∙ c.loop-s.invariant
+    state-fails a.fires.now a.says.now c.least-n.result c.loop-s.s a.states c.search_state.ensures c.loop-s-test.true c.in-Some.is ∙ c.loop-s.invariant
 
 pub loop-s-preserved : goal.loop-s-preserved
 loop-s-preserved c =
     let a = c.args in
-    state-passes a.fires.now a.says.now c.least-n.result c.loop-s.s a.states c.search_state-found.ensures c.loop-s-test.true c.in_default.is ∙ c.loop-s.invariant
+    state-passes a.fires.now a.says.now c.least-n.result c.loop-s.s a.states c.search_state.ensures c.loop-s-test.true c.in_default.is ∙ c.loop-s.invariant
 
 pub returns : goal.returns
 returns c =

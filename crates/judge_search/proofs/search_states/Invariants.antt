@@ -9,6 +9,3 @@ use Rattle.judge_search.proofs.search_states.Given as goal
 abbrev pub invariant-loop-s : goal.invariant-loop-s
 invariant-loop-s l =
     fault_from (fails_at l.fires l.says l.n) l.n l.s (l.states - l.s) ≡ fault_from (fails_at l.fires l.says (min l.inputs most_inputs)) (min l.inputs most_inputs) 0 l.states
-
-abbrev pub decreases-loop-s : goal.decreases-loop-s
-decreases-loop-s l = l.states - l.s

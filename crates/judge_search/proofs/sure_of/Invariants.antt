@@ -6,6 +6,3 @@ use Rattle.judge_search.proofs.sure_of.Given as goal
 
 abbrev pub invariant-loop-j : goal.invariant-loop-j
 invariant-loop-j l = sure_words l.sure l.cols (l.j * 14) (l.inputs - l.j) ≡ sure_words l.initial.sure l.cols 0 l.inputs
-
-abbrev pub decreases-loop-j : goal.decreases-loop-j
-decreases-loop-j l = l.inputs - l.j

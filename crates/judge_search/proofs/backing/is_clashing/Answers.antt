@@ -1,17 +1,16 @@
--- `judge_search::backing::is_clashing` meets its contract: the rows that were passed do not clash.
-use mathlib.Core.Path.{◌∙◌}
-use native.Mathlib.Omega.{arith}
-use Rattle.judge_search.specs.Backing.{clashes}
-use Rattle.judge_search.proofs.Backed.{any_here, any_next, any-over}
+-- `judge_search::backing::is_clashing` meets its contract: the rows are asked one after the other.
+use Rattle.std.proofs.Common.{rules, tests}
+use Rattle.std.proofs.lemmas.Iterator.{YieldsList-from_range}
+use Rattle.std.proofs.lemmas.Iterator.Search.{any_from_yields_List}
+use mathlib.Core.Path.{refl, ◌∙◌}
+use Prim.Native.Nat.{◌-◌}
+use Rattle.judge_search.specs.Backing.{clash, clashes}
+use Rattle.judge_search.proofs.Backed.{any-is}
 use Rattle.judge_search.proofs.backing.is_clashing.Goals as goal
-
-pub returns-then-is_clash : goal.returns-then-is_clash
-unfolding clashes
-returns-then-is_clash c = any_here _ c.loop-y.y 192 (omega arith) c.is_clash.ensures c.if-is_clash.true ∙ c.loop-y.invariant
-
-pub loop-y-preserved : goal.loop-y-preserved
-loop-y-preserved c = any_next _ _ _ (omega arith) c.is_clash.ensures c.if-is_clash.false ∙ c.loop-y.invariant
 
 pub returns : goal.returns
 unfolding clashes
-returns c = any-over _ c.loop-y.y 192 (omega (arith, c.loop-y-test.false)) ∙ c.loop-y.invariant
+returns c =
+    let a = c.args in
+    any_from_yields_List (clash a.fires.now a.says.now a.inputs a.x) _ _ _ c.any.ensures.ran (YieldsList-from_range 0 192 (192 - 0) refl refl) (λ x b q k. search (rules, tests))
+    ∙ any-is (clash a.fires.now a.says.now a.inputs a.x) 0 (192 - 0)
