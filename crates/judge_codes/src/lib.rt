@@ -7,7 +7,6 @@ ghost use Rattle.rules.specs.Text.{dash, same, lines_of};
 ghost use Rattle.rules.specs.CheckTexts.{width_in, is_number, codes_refused, codes_reading, bit_in};
 ghost use Rattle.judge_codes.specs.Lines.{just_dash, code_field, code_said, all_bits};
 
-use read_fields::Places;
 use read_pieces::{cut, field};
 use rules::{CodeTable, CodesReading, Refusal, Verdict};
 
@@ -49,11 +48,11 @@ fn code_in(w: usize, f: &[u8]) -> Code
         }
         return Code::Bad;
     }
-    let Places::Read(code, _) = read_fields::places_in(f, rules::MOST_BITS, w, b'0', b'1', b'1')
+    let Some(code) = read_fields::places_in(f, rules::MOST_BITS, w, b'0', b'1', b'1')
     else {
         return Code::Bad;
     };
-    Code::Is(code)
+    Code::Is(code.second)
 }
 
 // Whether a field is the number s.

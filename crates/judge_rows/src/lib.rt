@@ -8,7 +8,6 @@ ghost use Rattle.judge_search.specs.Rows.{all_row_places};
 ghost use Rattle.judge_rows.specs.Rows.{laid, firing_list, saying_list, code_at, row_firing, row_saying, listing_laid, marks_of, takes_digit, states_taking, line_firing, line_saying, line_laid};
 
 use judge_search::{ALL_ROWS, FIRES_WORDS, SAYS_WORDS, Said};
-use read_fields::Places;
 use read_pieces::{field, first_of};
 use rules::{CodeTable, Listing, Row};
 
@@ -110,10 +109,10 @@ fn marks_of(f: &[u8]) -> Marks
     ensures { result ≡ marks_of f.now }
 {
     let n = f.len();
-    let Places::Read(ones, dashes) = read_fields::places_in(f, 64, n, b'0', b'1', b'-') else {
+    let Some(places) = read_fields::places_in(f, 64, n, b'0', b'1', b'-') else {
         return Marks { ones: 0, dashes: 0 };
     };
-    Marks { ones, dashes }
+    Marks { ones: places.second, dashes: places.third }
 }
 
 // 1 where characters take a code.

@@ -1,25 +1,16 @@
 -- The scan for two rows that clash, row by row.
 use mathlib.Core.Path.{◌≡◌, refl, ap, ◌∙◌}
-use mathlib.Core.Bool.{Bool, true, false, ◌&&◌, not, cond}
+use mathlib.Core.Bool.{Bool, true, false, cond}
 use mathlib.Core.List.{List, [], ◌∷◌}
 use Prim.Native.Nat.{ℕ, ◌+◌, ◌≤◌, ◌<◌}
 use lib.ListN.{length, get_or, take, drop}
-use lib.Dec.{eqb}
-use Rattle.rules.specs.Listing.{no_row, blank, meets, clash, clash_with, or_else, conflict}
+use Rattle.rules.specs.Listing.{no_row, blank, clash, clash_with, or_else, conflict}
 use Rattle.rules.specs.declared.Listing.{Listing}
 use Rattle.rules.specs.declared.Row.{Row}
 use Rattle.rules.specs.declared.Refusal.TheVariants.{Conflict}
 use Rattle.rules.specs.Refusals.{Verdict, refused}
 use Rattle.rules.proofs.Rows.{row_here, row-none}
 use Rattle.std.specs.Prelude.{Ok}
-
--- ---- two rows
-
--- what makes a clash is judged one after the other
-pub clash-each : (a b : Row) {p r s t : Bool} → meets a b ≡ p → eqb a.next 0 ≡ r → eqb b.next 0 ≡ s → eqb a.next b.next ≡ t
-    → clash a b ≡ (p && not r && not s && not t)
-unfolding clash
-clash-each a b e g h i = rw (e, g, h, i)
 
 -- ---- one row and those behind it
 

@@ -7,19 +7,11 @@ ghost use Rattle.rules.specs.Listing.{clash, conflict};
 use rules::{Refusal, Refused, Row};
 
 // Whether two rows share an input vector and a state and name different next states.
+#[tactic(auto, unfolding(rules::specs::Listing::clash))]
 fn clashes(a: Row, b: Row) -> bool
     ensures { result ≡ clash a b }
 {
-    if !sharing::meet(a, b) {
-        return false;
-    }
-    if a.next == 0 {
-        return false;
-    }
-    if b.next == 0 {
-        return false;
-    }
-    a.next != b.next
+    sharing::meet(a, b) && a.next != 0 && b.next != 0 && a.next != b.next
 }
 
 // The first pair of rows that clash, by the earlier row and then the later one: refused at the later row's line.
@@ -28,19 +20,15 @@ pub fn first_clash(rows: usize, table: [Row; rules::MOST_ROWS]) -> Result<(), Re
 {
     let n = sets::least(rows, rules::MOST_ROWS);
     let mut found: Result<(), Refused> = Ok(());
-    let mut i: usize = 0;
-    'pairs: while i < n {
+    'pairs: for i in 0..n {
         let a = table[i];
-        let mut j = i + 1;
-        while j < n {
+        for j in i + 1..n {
             let b = table[j];
             if clashes(a, b) {
                 found = Err(Refusal::Conflict.at(b.line));
                 break 'pairs;
             }
-            j += 1;
         }
-        i += 1;
     }
     found
 }

@@ -22,7 +22,7 @@ fn one_of(x: u8, a: u8, b: u8, c: u8) -> bool
 }
 
 // 1 for two equal characters, and 0 for others.
-fn digit_of(x: u8, c: u8) -> u64
+pub fn digit_of(x: u8, c: u8) -> u64
     ensures { result ≡ digit (eqb x c) }
 {
     u64::from(x == c)

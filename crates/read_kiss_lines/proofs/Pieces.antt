@@ -1,5 +1,5 @@
 -- Where the fields of a line stand: that a place is within the line or next to it, and that the piece of a field is the field.
-use mathlib.Core.Path.{◌≡◌}
+use mathlib.Core.Path.{◌≡◌, refl}
 use mathlib.Core.List.{List}
 use Prim.Native.Nat.{ℕ, max, ◌+◌, ◌≤◌}
 use native.Mathlib.Omega.{arith}
@@ -18,6 +18,9 @@ pub pieces-by : (l : List ℕ) {a b c : ℕ} → a ≡ end_of space l 0 → b �
 unfolding state_pieces field_piece field_start
 pieces-by l e f g = rw (g, f, e)
 
-pub reset-piece : (l : List ℕ) {a b : ℕ} → a ≡ end_of space l 0 → b ≡ end_of space l (a + 1) → record { start = a + 1; end = b } ≡ field_piece l 1
+-- the piece of a name behind the mark
+pub reset-piece : (l : List ℕ) → field_piece l 1 ≡ record { start = end_of space l 0 + 1; end = end_of space l (end_of space l 0 + 1) }
 unfolding field_piece field_start
-reset-piece l e f = rw (f, e)
+reset-piece l = refl
+
+pub ruleset names = (reset-piece, end-within)

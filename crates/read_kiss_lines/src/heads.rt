@@ -1,19 +1,14 @@
 // The headers of a KISS2 text that tell a number, and where a line may stand.
-ghost use Rattle.std.specs.Prelude.{◌≡◌, ◌&&◌, not, eqb};
+ghost use Rattle.std.specs.Prelude.{◌≡◌, ◌&&◌, cond, leb, eqb, Ok, Err};
 ghost use Rattle.rules.specs.KissLines.{number_line};
 ghost use Rattle.rules.specs.Kiss.{kiss_placed};
-ghost use Rattle.read_kiss_lines.specs.Says.{inputs_told, outputs_told, told, heads_line};
+ghost use Rattle.rules.specs.declared.Refusal.TheVariants.{Limit};
+ghost use Rattle.read_kiss_lines.specs.Says.{told, heads_line};
 
 use rules::{KissHeads, KissMark, Refusal, Told};
 
-// What a reader of one header answers: the headers with it, or the refusal.
-#[derive(Clone, Copy)]
-pub enum HeadsLine {
-    Read(KissHeads),
-    Refused(Refusal),
-}
-
 // The one number behind the mark.
+#[tactic(auto, unfolding(rules::specs::KissLines::number_line))]
 fn number_line(l: &[u8]) -> Option<usize>
     ensures { result ≡ number_line l.now }
 {
@@ -23,75 +18,39 @@ fn number_line(l: &[u8]) -> Option<usize>
     read_fields::numeral_of(read_pieces::field(l, 1))
 }
 
-fn inputs_told(h: KissHeads, n: usize) -> HeadsLine
-    ensures { result ≡ inputs_told h n }
+// A number that is 1 to `most`.
+fn within(n: usize, most: usize) -> Result<usize, Refusal>
+    ensures { result ≡ cond (leb 1 n && leb n most) (Ok n) (Err Limit) }
 {
-    if n < 1 {
-        return HeadsLine::Refused(Refusal::Limit);
+    if 1 <= n && n <= most {
+        Ok(n)
+    } else {
+        Err(Refusal::Limit)
     }
-    if rules::MOST_INPUTS < n {
-        return HeadsLine::Refused(Refusal::Limit);
-    }
-    let mut next = h;
-    next.inputs = n;
-    HeadsLine::Read(next)
-}
-
-fn outputs_told(h: KissHeads, n: usize) -> HeadsLine
-    ensures { result ≡ outputs_told h n }
-{
-    if n < 1 {
-        return HeadsLine::Refused(Refusal::Limit);
-    }
-    if rules::MOST_OUTPUTS < n {
-        return HeadsLine::Refused(Refusal::Limit);
-    }
-    let mut next = h;
-    next.outputs = n;
-    HeadsLine::Read(next)
-}
-
-fn states_told(h: KissHeads, n: usize, k: usize) -> HeadsLine
-    ensures { result ≡ told KissMark.States k h n }
-{
-    let said = Told { number: n, line: k };
-    let mut next = h;
-    next.states = said;
-    HeadsLine::Read(next)
-}
-
-fn products_told(h: KissHeads, n: usize, k: usize) -> HeadsLine
-    ensures { result ≡ told KissMark.Products k h n }
-{
-    let said = Told { number: n, line: k };
-    let mut next = h;
-    next.products = said;
-    HeadsLine::Read(next)
 }
 
 // What the number n says behind a mark; other marks than these four tell none.
-fn number_told(mark: KissMark, k: usize, h: KissHeads, n: usize) -> HeadsLine
+#[tactic(auto, unfolding(crate::specs::Says::told, crate::specs::Says::inputs_told, crate::specs::Says::outputs_told))]
+fn number_told(mark: KissMark, k: usize, h: KissHeads, n: usize) -> Result<KissHeads, Refusal>
     ensures { result ≡ told mark k h n }
 {
+    let mut next = h;
     match mark {
-        KissMark::Inputs => inputs_told(h, n),
-        KissMark::Outputs => outputs_told(h, n),
-        KissMark::States => states_told(h, n, k),
-        KissMark::Products => products_told(h, n, k),
-        KissMark::Reset => HeadsLine::Refused(Refusal::BadLine),
-        KissMark::End => HeadsLine::Refused(Refusal::BadLine),
-        KissMark::Unknown => HeadsLine::Refused(Refusal::BadLine),
-        KissMark::Row => HeadsLine::Refused(Refusal::BadLine),
+        KissMark::Inputs => next.inputs = within(n, rules::MOST_INPUTS)?,
+        KissMark::Outputs => next.outputs = within(n, rules::MOST_OUTPUTS)?,
+        KissMark::States => next.states = Told { number: n, line: k },
+        KissMark::Products => next.products = Told { number: n, line: k },
+        _ => return Err(Refusal::BadLine),
     }
+    Ok(next)
 }
 
 // `.i`, `.o`, `.s` or `.p`, as line k.
-pub fn heads_line(mark: KissMark, k: usize, h: KissHeads, l: &[u8]) -> HeadsLine
+#[tactic(auto, unfolding(crate::specs::Says::heads_line))]
+pub fn heads_line(mark: KissMark, k: usize, h: KissHeads, l: &[u8]) -> Result<KissHeads, Refusal>
     ensures { result ≡ heads_line mark k h (number_line l.now) }
 {
-    let Some(n) = number_line(l) else {
-        return HeadsLine::Refused(Refusal::BadLine);
-    };
+    let n = number_line(l).ok_or(Refusal::BadLine)?;
     number_told(mark, k, h, n)
 }
 
@@ -99,33 +58,11 @@ pub fn heads_line(mark: KissMark, k: usize, h: KissHeads, l: &[u8]) -> HeadsLine
 fn is_early(seen: usize, lines: usize) -> bool
     ensures { result ≡ (eqb seen 0 && eqb lines 0) }
 {
-    if seen != 0 {
-        return false;
-    }
-    lines == 0
-}
-
-// Whether `.i` and `.o` have come.
-fn is_headed(h: KissHeads) -> bool
-    ensures { result ≡ (not (eqb h.inputs 0) && not (eqb h.outputs 0)) }
-{
-    if h.inputs == 0 {
-        return false;
-    }
-    h.outputs != 0
-}
-
-// Whether `.r` may come now.
-fn may_reset(h: KissHeads) -> bool
-    ensures { result ≡ (not h.reset && eqb h.lines 0) }
-{
-    if h.reset {
-        return false;
-    }
-    h.lines == 0
+    seen == 0 && lines == 0
 }
 
 // Whether a line with this mark is in its place.
+#[tactic(auto, unfolding(rules::specs::Kiss::kiss_placed))]
 pub fn in_place(mark: KissMark, h: KissHeads) -> bool
     ensures { result ≡ kiss_placed mark h }
 {
@@ -134,9 +71,8 @@ pub fn in_place(mark: KissMark, h: KissHeads) -> bool
         KissMark::Outputs => is_early(h.outputs, h.lines),
         KissMark::States => is_early(h.states.line, h.lines),
         KissMark::Products => is_early(h.products.line, h.lines),
-        KissMark::Reset => may_reset(h),
-        KissMark::End => is_headed(h),
+        KissMark::Reset => !h.reset && h.lines == 0,
+        KissMark::End | KissMark::Row => h.inputs != 0 && h.outputs != 0,
         KissMark::Unknown => true,
-        KissMark::Row => is_headed(h),
     }
 }

@@ -8,51 +8,49 @@ use read_names::same_bytes;
 use rules::KissMark;
 
 // Whether a field begins with a dot.
+#[tactic(auto, unfolding(rules::specs::KissLines::dotted))]
 fn is_dotted(f: &[u8]) -> bool
     ensures { result ≡ dotted f.now }
 {
-    if f.len() == 0 {
-        return false;
-    }
-    f[0] == b'.'
+    matches!(f, [b'.', ..])
 }
 
 // What a field is that is none of the six marks.
+#[tactic(auto, unfolding(crate::specs::Says::mark_else))]
 fn mark_else(f: &[u8]) -> KissMark
     ensures { result ≡ mark_else f.now }
 {
     if is_dotted(f) {
-        return KissMark::Unknown;
+        KissMark::Unknown
+    } else {
+        KissMark::Row
     }
-    KissMark::Row
 }
 
 // Which mark a field is.
+#[tactic(auto, unfolding(rules::specs::KissLines::kiss_mark, crate::specs::Says::mark_else))]
 fn mark_in(f: &[u8]) -> KissMark
     ensures { result ≡ kiss_mark f.now }
 {
     if same_bytes(f, b".i") {
-        return KissMark::Inputs;
+        KissMark::Inputs
+    } else if same_bytes(f, b".o") {
+        KissMark::Outputs
+    } else if same_bytes(f, b".s") {
+        KissMark::States
+    } else if same_bytes(f, b".p") {
+        KissMark::Products
+    } else if same_bytes(f, b".r") {
+        KissMark::Reset
+    } else if same_bytes(f, b".e") {
+        KissMark::End
+    } else {
+        mark_else(f)
     }
-    if same_bytes(f, b".o") {
-        return KissMark::Outputs;
-    }
-    if same_bytes(f, b".s") {
-        return KissMark::States;
-    }
-    if same_bytes(f, b".p") {
-        return KissMark::Products;
-    }
-    if same_bytes(f, b".r") {
-        return KissMark::Reset;
-    }
-    if same_bytes(f, b".e") {
-        return KissMark::End;
-    }
-    mark_else(f)
 }
 
 // The mark that leads a line.
+#[tactic(auto, unfolding(rules::specs::Text::mark_of))]
 pub fn mark_of(l: &[u8]) -> KissMark
     ensures { result ≡ kiss_mark (mark_of l.now) }
 {

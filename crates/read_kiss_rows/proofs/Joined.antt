@@ -15,7 +15,6 @@ use Rattle.read_names.specs.declared.Names.{Names}
 use Rattle.read_kiss_lines.specs.declared.row.KissRow.{KissRow}
 use Rattle.read_kiss_rows.specs.Drafts.{drafts, join_at, join_of, more_by, more_of, states_of}
 use Rattle.read_kiss_rows.specs.declared.Draft.{Draft}
-use Rattle.read_kiss_rows.specs.declared.More.{More}
 use Rattle.read_kiss_rows.specs.declared.states.RowStates.{RowStates}
 
 pub same_by : (r q : Row) {a b : Bool} → same_pattern r.input q.input ≡ a → eqb r.next q.next ≡ b → same_row r q ≡ (a && (b && same_pattern r.outputs q.outputs))

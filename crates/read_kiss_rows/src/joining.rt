@@ -11,23 +11,15 @@ use rules::{KissHeads, Pattern, Row};
 fn same_pattern(p: Pattern, q: Pattern) -> bool
     ensures { result ≡ same_pattern p q }
 {
-    if p.ones != q.ones {
-        return false;
-    }
-    p.dashes == q.dashes
+    p.ones == q.ones && p.dashes == q.dashes
 }
 
 // Whether two rows have the same input, next state and outputs.
+#[tactic(auto, unfolding(rules::specs::Kiss::same_row))]
 fn same_row(r: Row, q: Row) -> bool
     ensures { result ≡ same_row r q }
 {
-    if !same_pattern(r.input, q.input) {
-        return false;
-    }
-    if r.next != q.next {
-        return false;
-    }
-    same_pattern(r.outputs, q.outputs)
+    same_pattern(r.input, q.input) && r.next == q.next && same_pattern(r.outputs, q.outputs)
 }
 
 // The place of the first row that r joins, or the place behind the last.
@@ -35,15 +27,12 @@ fn place_of(rows: usize, table: [Row; rules::MOST_ROWS], r: Row) -> usize
     ensures { result ≡ place_of r (take rows table) }
 {
     let n = sets::least(rows, rules::MOST_ROWS);
-    let mut i: usize = 0;
-    while i < n {
-        let q = table[i];
-        if same_row(r, q) {
+    for i in 0..n {
+        if same_row(r, table[i]) {
             return i;
         }
-        i += 1;
     }
-    i
+    n
 }
 
 // A draft, and whether it is full.

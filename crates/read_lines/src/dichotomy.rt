@@ -7,7 +7,6 @@ use read_pieces::{behind, cut};
 use rules::{Head, Refusal, Requirement};
 
 // What a `DI` line says, behind `count` dichotomies.
-#[tactic(auto, using(crate::proofs::dichotomy::Laws::parts))]
 pub fn dichotomy_line(h: Head, count: usize, l: &[u8]) -> Result<Requirement, Refusal>
     ensures { result ≡ dichotomy_line h count l.now }
 {

@@ -1,25 +1,28 @@
 -- Two runs of bytes, one byte after the other.
 use mathlib.Core.Path.{◌≡◌, refl, sym, ap, ◌∙◌}
-use mathlib.Core.Bool.{Bool, true, ◌&&◌}
+use mathlib.Core.Bool.{Bool, ◌&&◌}
 use mathlib.Core.List.{List, [], ◌∷◌}
-use Prim.Native.Nat.{ℕ, min, ◌+◌, ◌-◌, ◌≤◌, ◌<◌}
+use Prim.Native.Nat.{ℕ, min, ◌-◌, ◌≤◌, ◌<◌}
 use native.Mathlib.Omega.{arith}
-use lib.ListN.{length, get_or, take, drop, drop_of_length-le, length-take, length-drop}
+use lib.ListN.{length, take, drop, length-take, length-drop}
 use lib.Dec.{eqb}
+use lib.Pointwise.{pointwise}
 use Rattle.sets.proofs.Places.{take-most}
 use Rattle.rules.specs.Text.{same}
-use Rattle.read_fields.proofs.Characters.{drop-one}
 use Rattle.read_names.specs.Names.{piece_of}
 use Rattle.read_names.specs.declared.Piece.{Piece}
 
-pub same_step : (xs ys : List ℕ) (i : ℕ) {t : Bool} → i < length xs → i < length ys → eqb (get_or xs i 0) (get_or ys i 0) ≡ t
-    → same (drop i xs) (drop i ys) ≡ (t && same (drop (i + 1) xs) (drop (i + 1) ys))
-unfolding same
-same_step xs ys i h g e = rw (drop-one xs i h, drop-one ys i g, e)
+-- ---- the same bytes
 
-pub same_end : (xs ys : List ℕ) (i : ℕ) → length xs ≤ i → length ys ≤ i → same (drop i xs) (drop i ys) ≡ true
+-- one byte after the other, as `==` compares them
+pub same-equal : (xs ys : List ℕ) → same xs ys ≡ pointwise eqb xs ys
 unfolding same
-same_end xs ys i h g = rw (drop_of_length-le xs {i = i} h, drop_of_length-le ys {i = i} g)
+same-equal [] [] = refl
+same-equal [] (y ∷ ys) = refl
+same-equal (x ∷ xs) [] = refl
+same-equal (x ∷ xs) (y ∷ ys) = ap (λ (t : Bool). eqb x y && t) (same-equal xs ys)
+
+pub ruleset equal = (same-equal)
 
 -- ---- the bytes of a piece, whose end is cut to the text's
 

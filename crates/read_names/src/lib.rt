@@ -21,20 +21,11 @@ pub struct Names {
 }
 
 // Whether two runs of bytes are the same.
+#[tactic(auto, using(crate::proofs::Same::equal))]
 pub fn same_bytes(a: &[u8], b: &[u8]) -> bool
     ensures { result ≡ same a.now b.now }
 {
-    if a.len() != b.len() {
-        return false;
-    }
-    let mut i = 0;
-    while i < a.len() {
-        if a[i] != b[i] {
-            return false;
-        }
-        i += 1;
-    }
-    true
+    a == b
 }
 
 // The bytes of a piece, as far as the text has them.
@@ -54,30 +45,27 @@ pub fn number_of(s: &[u8], names: Names, f: &[u8]) -> usize
     ensures { result ≡ number_of (names_in s.now names) f.now }
 {
     let n = sets::least(names.count, rules::MOST_STATES);
-    let mut i: usize = 0;
-    while i < n {
-        let p = names.places[i];
-        if same_bytes(bytes_of(s, p), f) {
+    for i in 0..n {
+        if same_bytes(bytes_of(s, names.places[i]), f) {
             return i;
         }
-        i += 1;
     }
-    i
+    n
 }
 
 // No names yet.
+#[tactic(auto, unfolding(crate::specs::Names::no_names))]
 pub fn no_names() -> Names
     ensures { result ≡ no_names }
 {
-    let nowhere = Piece { start: 0, end: 0 };
-    let places = [nowhere; rules::MOST_STATES];
     Names {
         count: 0,
-        places: places,
+        places: [Piece { start: 0, end: 0 }; rules::MOST_STATES],
     }
 }
 
 // The names with one more behind them, if there is room.
+#[tactic(auto, unfolding(crate::specs::Names::with_name))]
 pub fn with_name(names: Names, p: Piece) -> Names
     ensures { result ≡ with_name names p }
 {

@@ -21,5 +21,5 @@ returns-in_default c =
 
 pub returns : goal.returns
 returns c =
-    let fit = places-read nought one one _ most_bits _ (λ l. omega arith) (sym c.places_in.ensures ∙ c.in-Read.is) in
+    let fit = places-read nought one one _ most_bits _ (λ l. omega arith) (sym c.places_in.ensures ∙ c.in-Some.is) in
     field_fit _ _ c.if-w-eq0.false fit.0 fit.1

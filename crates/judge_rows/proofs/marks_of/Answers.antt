@@ -11,5 +11,5 @@ returns-in_default c =
 
 pub returns : goal.returns
 returns c =
-    let fit = places-read nought one dash _ 64 _ (λ l. l) (sym c.places_in.ensures ∙ c.in-Read.is) in
+    let fit = places-read nought one dash _ 64 _ (λ l. l) (sym c.places_in.ensures ∙ c.in-Some.is) in
     marks-good _ fit.0 fit.1 fit.2

@@ -3,13 +3,13 @@ use Rattle.rules.specs.declared.Requirement.{Requirement}
 use Rattle.rules.specs.declared.Refusal.{Refusal}
 use Rattle.std.specs.Prelude.{Result, Ok, Err, Some, None}
 use mathlib.Core.Path.{◌≡◌, refl, ◌∙◌}
-use mathlib.Core.Bool.{Bool, true, false, ◌&&◌, cond}
+use mathlib.Core.Bool.{Bool, ◌&&◌, cond}
 use mathlib.Core.List.{List, [], ◌∷◌}
 use Prim.Native.Nat.{ℕ, ◌+◌, ◌≤◌, ◌<◌}
 use native.Mathlib.Omega.{arith}
 use lib.ListN.{length, get_or, drop}
 use lib.Dec.{leb, eqb, eqb-suc-suc}
-use borrow.Author.Tests.{eqb-true, leb-true, leb-false}
+use borrow.Author.Tests.{eqb-true}
 use Rattle.sets.proofs.Every.{and_first, and_second}
 use Rattle.rules.specs.Limits.{most_states, most_dichotomies}
 use Rattle.rules.specs.Text.{plus, dash, dot, space, split, sized, set_of}
@@ -19,8 +19,7 @@ use Rattle.rules.specs.declared.Refusal.TheVariants.{BadLine, Limit}
 use Rattle.read_fields.specs.Fields.{places_in}
 use Rattle.read_fields.proofs.Characters.{sized-turn}
 use Rattle.read_fields.proofs.Sets.{places-sized}
-use Rattle.read_pieces.specs.Pieces.{end_of}
-use Rattle.read_pieces.proofs.Laws.{Cut, cut_of}
+use Rattle.read_pieces.proofs.Laws.{Cut}
 use Rattle.read_lines.proofs.Fields.{field-last}
 
 -- what a field that is in order says, behind so many others
@@ -44,37 +43,15 @@ rest-pieces k t s b e =
 
 -- the mark ends at r
 module _ (h : Head) (count : ℕ) (l : List ℕ) (r : ℕ) (c : Cut space l 0 r) where
-  dichotomy-none : length l ≤ r → dichotomy_line h count l ≡ Err BadLine
+  pub dichotomy-none : length l ≤ r → dichotomy_line h count l ≡ Err BadLine
   dichotomy-none n = line-pieces h count l _ [] refl (c.last n)
 
   module _ {t : List ℕ} (n : r < length l) (e : t ≡ drop (r + 1) l) where
-    dichotomy-rest : {s b : Bool} → leb most_dichotomies count ≡ s → sized most_states h.states plus dash dot t ≡ b
+    pub dichotomy-rest : {s b : Bool} → leb most_dichotomies count ≡ s → sized most_states h.states plus dash dot t ≡ b
         → dichotomy_line h count l ≡ cond b (said s t) (Err BadLine)
     dichotomy-rest {s} {b} p q = line-pieces h count l _ _ p (c.more n) ∙ rw (← e) (rest-pieces h.states t s b q)
-
--- all of it, by where the mark ends
-pub dichotomy-parts : (h : Head) (count : ℕ) (l : List ℕ)
-    → dichotomy_line h count l
-    ≡ cond (leb (length l) (end_of space l 0)) (Err BadLine)
-    (cond (sized most_states h.states plus dash dot (drop (end_of space l 0 + 1) l)) (said (leb most_dichotomies count) (drop (end_of space l 0 + 1) l)) (Err BadLine))
-dichotomy-parts h count l = go (leb (length l) r) refl
-  where
-    r : ℕ
-    r = end_of space l 0
-
-    c : Cut space l 0 r
-    c = cut_of space l 0 (omega arith) refl
-
-    t : List ℕ
-    t = drop (r + 1) l
-
-    go : (b : Bool) → leb (length l) r ≡ b → dichotomy_line h count l ≡ cond b (Err BadLine) (cond (sized most_states h.states plus dash dot t) (said (leb most_dichotomies count) t) (Err BadLine))
-    go true e = dichotomy-none h count l r c (leb-true _ _ e)
-    go false e = dichotomy-rest h count l r c (leb-false _ _ e) refl refl refl
 
 -- the two blocks are what a field in order says
 pub blocks-sized : (k : ℕ) (t : List ℕ)
     → places_in most_states k dot plus dash t ≡ cond (sized most_states k plus dash dot t) (Some (record { second = set_of plus t; third = set_of dash t })) None
 blocks-sized k t = rw (← sized-turn most_states k dot plus dash t) (places-sized dot plus dash t most_states k (λ k. omega arith) refl)
-
-pub ruleset parts = (dichotomy-parts, blocks-sized)

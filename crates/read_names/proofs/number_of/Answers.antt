@@ -18,7 +18,6 @@ loop-i-init c =
       names-length a.s.now a.names ∙ omega (arith, c.least-n.ensures),
       omega (arith, c.least-n.ensures),
       omega (arith, c.least-n.ensures),
-      omega arith,
       from_start (λ n. same n a.f.now) (names_in a.s.now a.names) ∙ number-first (names_in a.s.now a.names) a.f.now,
       l,
     )
@@ -27,17 +26,18 @@ pub returns-then-same_bytes : goal.returns-then-same_bytes
 returns-then-same_bytes c =
     let l = c.loop-i in
     let a = c.args in
-    sym (from-here (λ n. same n a.f.now) (names_in a.s.now a.names) [] l.i (omega arith) (ap (λ (f : List ℕ). same f a.f.now) (name-at a.s.now a.names l.i (omega arith) (omega arith) ∙ sym c.bytes_of.ensures) ∙ sym c.same_bytes.ensures ∙ c.if-same_bytes.true)) ∙ l.invariant.4
+    sym (from-here (λ n. same n a.f.now) (names_in a.s.now a.names) [] l.i (omega arith) (ap (λ (f : List ℕ). same f a.f.now) (name-at a.s.now a.names l.i (omega arith) (omega arith) ∙ sym c.bytes_of.ensures) ∙ sym c.same_bytes.ensures ∙ c.if-same_bytes.true)) ∙ l.invariant.3
 
 pub loop-i-preserved : goal.loop-i-preserved
 loop-i-preserved c =
     let l = c.loop-i in
     let a = c.args in
     let n = sym (from_on (λ n. same n a.f.now) (names_in a.s.now a.names) [] l.i (omega arith) (ap (λ (f : List ℕ). same f a.f.now) (name-at a.s.now a.names l.i (omega arith) (omega arith) ∙ sym c.bytes_of.ensures) ∙ sym c.same_bytes.ensures ∙ c.if-same_bytes.false)) in
-    (l.invariant.0, l.invariant.1, l.invariant.2, omega arith, n ∙ l.invariant.4, l.invariant.5)
+    (l.invariant.0, l.invariant.1, l.invariant.2, n ∙ l.invariant.3, l.invariant.4)
 
 pub returns : goal.returns
 returns c =
     let l = c.loop-i in
     let a = c.args in
-    sym (from_end (λ n. same n a.f.now) (names_in a.s.now a.names) l.i (omega arith)) ∙ l.invariant.4
+    let e : c.least-n.result ≡ l.i = omega arith in
+    e ∙ sym (from_end (λ n. same n a.f.now) (names_in a.s.now a.names) l.i (omega arith)) ∙ l.invariant.3

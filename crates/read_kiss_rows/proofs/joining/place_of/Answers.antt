@@ -17,7 +17,6 @@ loop-i-init c =
       omega (arith, length-take a.rows a.table, c.least-n.ensures),
       omega (arith, c.least-n.ensures),
       omega (arith, c.least-n.ensures),
-      omega arith,
       from_start (same_row a.r) (take a.rows a.table) ∙ place-first a.r (take a.rows a.table),
     )
 
@@ -26,7 +25,7 @@ returns-then-same_row c =
     let l = c.loop-i in
     let a = c.args in
     let q = ap (same_row a.r) (get_or-take a.rows a.table l.i no_row (omega arith)) ∙ sym c.same_row.ensures ∙ c.if-same_row.true in
-    sym (from-here (same_row a.r) (take a.rows a.table) no_row l.i (omega arith) q) ∙ l.invariant.4
+    sym (from-here (same_row a.r) (take a.rows a.table) no_row l.i (omega arith) q) ∙ l.invariant.3
 
 pub loop-i-preserved : goal.loop-i-preserved
 loop-i-preserved c =
@@ -34,10 +33,11 @@ loop-i-preserved c =
     let a = c.args in
     let q = ap (same_row a.r) (get_or-take a.rows a.table l.i no_row (omega arith)) ∙ sym c.same_row.ensures ∙ c.if-same_row.false in
     let n = sym (from_on (same_row a.r) (take a.rows a.table) no_row l.i (omega arith) q) in
-    (l.invariant.0, l.invariant.1, l.invariant.2, omega arith, n ∙ l.invariant.4)
+    (l.invariant.0, l.invariant.1, l.invariant.2, n ∙ l.invariant.3)
 
 pub returns : goal.returns
 returns c =
     let l = c.loop-i in
     let a = c.args in
-    sym (from_end (same_row a.r) (take a.rows a.table) l.i (omega arith)) ∙ l.invariant.4
+    let e : c.least-n.result ≡ l.i = omega arith in
+    e ∙ sym (from_end (same_row a.r) (take a.rows a.table) l.i (omega arith)) ∙ l.invariant.3
