@@ -58,17 +58,11 @@ fn add_rows(out: &mut [u8], part: Part, t: Listing, bits: &[u64]) -> Part
     requires { Bounded t.head × (length bits.now ≤ most_bits) }
     ensures { (result, out.new) ≡ added_all (row_texts t.head bits.now (all_rows t) (printed_rows t.head bits.now (all_rows t))) (part, out.old) }
 {
-    let n = sets::least(t.rows, rules::MOST_ROWS);
-    let all = write_rows::row_count(t.head, t.rows);
     let mut to = part;
-    let mut k: usize = 0;
-    while k < all {
-        let place = sets::least(k, rules::MOST_ROWS - 1);
-        let state = write_rows::state_at(n, k);
-        let row = write_rows::row_at(n, k, t.table[place], t.said[state]);
+    for k in 0..write_rows::row_count(t.head, t.rows) {
+        let row = write_rows::row_of(&t, k);
         let kept = write_rows::kept_row(t, row);
         to = add_printed(out, to, t.head, bits, row, kept);
-        k += 1;
     }
     to
 }
@@ -89,10 +83,7 @@ fn add_lines(out: &mut [u8], part: Part, t: Listing, bits: &[u64]) -> Part
 fn is_bounded(inputs: usize, outputs: usize) -> bool
     ensures { result ≡ bounded inputs outputs }
 {
-    if rules::MOST_INPUTS < inputs {
-        return false;
-    }
-    outputs <= rules::MOST_OUTPUTS
+    inputs <= rules::MOST_INPUTS && outputs <= rules::MOST_OUTPUTS
 }
 
 // The cover of any listing, with the first `width` bits of a code, added to a part; of a listing with more inputs or outputs than 01 allows, as no reader

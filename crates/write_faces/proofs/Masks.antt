@@ -1,10 +1,11 @@
 -- A face's characters by masks: of a group, only the members below n count. Over any width.
-use mathlib.Core.Path.{◌≡◌, sym, ap, ap₂, ◌∙◌}
-use mathlib.Core.Bool.{Bool, ◌||◌, cond}
-use Prim.Native.Nat.{ℕ, ◌^◌, ◌≤◌, ◌<◌}
+use mathlib.Core.Path.{◌≡◌, refl, sym, ap, ap₂, ◌∙◌}
+use mathlib.Core.Bool.{Bool, true, false, ◌||◌, cond}
+use Prim.Native.Nat.{ℕ, ◌^◌, ◌≤◌, ◌<◌, min}
 use native.Mathlib.Nat.{mod-eq_of_lt, lt_of_lt_of_le}
 use native.Mathlib.Omega.{arith}
-use lib.Dec.{eqb}
+use lib.Dec.{eqb, leb}
+use borrow.Author.Tests.{leb-true, leb-false}
 use lib.Pow.{pow_mono}
 use lib.Bits.{bit_and, and_mask, mask_lt}
 use Rattle.sets.specs.Sets.{has, everyone}
@@ -32,6 +33,17 @@ wholly-below n b v g =
 -- past the mask's width they are all
 pub below-wide : (n g : ℕ) → g < 2 ^ 64 → 64 ≤ n → g ≡ bit_and g (everyone n)
 below-wide n g p h = sym (and_mask g n ∙ mod-eq_of_lt (lt_of_lt_of_le p (pow_mono h)))
+
+-- as a mask of 64 digits has them
+pub below-least : (n g : ℕ) → g < 2 ^ 64 → bit_and g (everyone (min n 64)) ≡ bit_and g (everyone n)
+below-least n g p = go (leb n 64) refl
+  where
+    go : (b : Bool) → leb n 64 ≡ b → bit_and g (everyone (min n 64)) ≡ bit_and g (everyone n)
+    go true e = let same : min n 64 ≡ n = omega (arith, leb-true n 64 e) in ap (λ (k : ℕ). bit_and g (everyone k)) same
+    go false e =
+        let h = leb-false n 64 e in
+        let same : min n 64 ≡ 64 = omega arith in
+        ap (λ (k : ℕ). bit_and g (everyone k)) same ∙ sym (below-wide 64 g p (omega arith)) ∙ below-wide n g p (omega arith)
 
 -- ---- the face's character is the value of the group's members below n
 

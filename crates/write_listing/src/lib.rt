@@ -16,9 +16,10 @@ fn put_width(out: &mut [u8], at: usize, width: usize, keeps: bool) -> usize
 {
     if keeps {
         let p = write_pen::put_field(out, at, width as u64, b' ');
-        return write_pen::put_bytes(out, p, b"1\n");
+        write_pen::put_bytes(out, p, b"1\n")
+    } else {
+        write_pen::put_field(out, at, width as u64, b'\n')
     }
-    write_pen::put_field(out, at, width as u64, b'\n')
 }
 
 // `MC n i o w`
@@ -44,14 +45,12 @@ fn put_set(out: &mut [u8], at: usize, n: usize, m: u64) -> usize
 fn put_row(out: &mut [u8], at: usize, head: Head, row: Row) -> usize
     ensures { Wrote out.old at (row_line_text head row) result out.new }
 {
-    let input = row.input;
-    let outputs = row.outputs;
     let p = write_pen::put_bytes(out, at, b"PT ");
-    let q = write_faces::put_pattern(out, p, input, head.inputs);
+    let q = write_faces::put_pattern(out, p, row.input, head.inputs);
     let r = write_pen::put_byte(out, q, b' ');
     let s = put_set(out, r, head.states, row.group);
     let t = put_set(out, s, head.states, row.next);
-    let u = write_faces::put_pattern(out, t, outputs, head.outputs);
+    let u = write_faces::put_pattern(out, t, row.outputs, head.outputs);
     write_pen::put_byte(out, u, b'\n')
 }
 
@@ -81,10 +80,8 @@ fn add_rows(out: &mut [u8], part: Part, t: Listing) -> Part
 {
     let n = sets::least(t.rows, rules::MOST_ROWS);
     let mut to = part;
-    let mut k: usize = 0;
-    while k < n {
-        to = add_row(out, to, t.head, t.table[k]);
-        k += 1;
+    for &row in &t.table[..n] {
+        to = add_row(out, to, t.head, row);
     }
     to
 }
@@ -93,13 +90,7 @@ fn add_rows(out: &mut [u8], part: Part, t: Listing) -> Part
 fn is_narrow(states: usize, inputs: usize, outputs: usize) -> bool
     ensures { result ≡ narrow states inputs outputs }
 {
-    if rules::MOST_STATES < states {
-        return false;
-    }
-    if rules::MOST_INPUTS < inputs {
-        return false;
-    }
-    outputs <= rules::MOST_OUTPUTS
+    states <= rules::MOST_STATES && inputs <= rules::MOST_INPUTS && outputs <= rules::MOST_OUTPUTS
 }
 
 // The text of any listing, added to a part; of a listing with more states, inputs or outputs than 01 allows, as no reader gives, no line.

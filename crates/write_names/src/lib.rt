@@ -25,12 +25,9 @@ fn put_states(out: &mut [u8], text: &[u8], names: Names) -> usize
     ensures { Wrote out.old 0 (joined_lines (name_lines_from 0 (names_in text.now names))) result out.new }
 {
     let n = sets::least(names.count, rules::MOST_STATES);
-    let mut to: usize = 0;
-    let mut i: usize = 0;
-    while i < n {
-        let p = names.places[i];
+    let mut to = 0;
+    for (i, &p) in names.places[..n].iter().enumerate() {
         to = put_line(out, to, StateNumber(i), read_names::bytes_of(text, p));
-        i += 1;
     }
     to
 }

@@ -6,7 +6,7 @@ use Prim.Native.Nat.{ℕ, suc, ◌+◌, ◌-◌, ◌≤◌, ◌<◌, min}
 use native.Mathlib.Numerals.{add-one}
 use native.Mathlib.Omega.{arith}
 use lib.Dec.{ltb}
-use lib.ListN.{length, take, get_or, drop, length-take, length-append, drop_of_length-le, get_or-append}
+use lib.ListN.{length, get_or, drop, length-take, length-append, drop_of_length-le, get_or-append}
 use lib.Seq.{drop-cons, get_or-take, get_or-append-add}
 use borrow.Author.Tests.{lt-ltb, le-ltb, ltb-true, ltb-false}
 use Rattle.rules.specs.Limits.{most_states, most_rows}
@@ -16,7 +16,7 @@ use Rattle.rules.specs.declared.Pattern.{Pattern}
 use Rattle.rules.specs.declared.Row.{Row}
 use Rattle.rules.specs.declared.Listing.{Listing}
 use Rattle.rules.proofs.AllRows.{said_of, added_rows, state-rows-long, state-row-at}
-use Rattle.write_rows.specs.Rows.{row_count, state_at, row_at}
+use Rattle.write_rows.specs.Rows.{row_count, state_at, row_at, row_of}
 
 -- ---- one of them
 
@@ -28,13 +28,13 @@ pub count-moore : (h : Head) (rows : ℕ) → h.moore ≡ true → row_count h r
 unfolding row_count
 count-moore h rows e = rw e
 
-pub state-before : (n k : ℕ) → k < n → state_at n k ≡ 0
+pub state-made : (n k : ℕ) → min (k - n) 63 ≡ state_at n k
 unfolding state_at
-state-before n k h = rw (lt-ltb k n h)
-
-pub state-behind : (n k : ℕ) → n ≤ k → state_at n k ≡ min (k - n) 63
-unfolding state_at
-state-behind n k h = rw (le-ltb k n h)
+state-made n k = go (ltb k n) refl
+  where
+    go : (b : Bool) → ltb k n ≡ b → min (k - n) 63 ≡ cond b 0 (min (k - n) 63)
+    go true e = omega (arith, ltb-true k n e)
+    go false e = refl
 
 pub state-few : (n k : ℕ) → state_at n k < 64
 unfolding state_at
@@ -129,3 +129,21 @@ module _ (t : Listing) (table : length t.table ≡ most_rows) (said : length t.s
 
   pub row-none : (k : ℕ) → m ≤ k → drop k (all_rows t) ≡ []
   row-none k h = drop_of_length-le (all_rows t) {i = k} (omega (arith, all-long))
+
+-- ---- as they are counted and taken, whatever the tables hold
+
+pub count-all : (t : Listing) → length t.table ≡ most_rows → length t.said ≡ most_states → row_count t.head t.rows ≡ length (all_rows t)
+count-all t table said = sym (all-long t table said refl refl)
+
+pub row-listed : (t : Listing) → length t.table ≡ most_rows → length t.said ≡ most_states → (k : ℕ) → k < length (all_rows t) → row_of t k ≡ get_or (all_rows t) k no_row
+unfolding row_of
+row-listed t table said k h = sym (taken t table said refl refl k (omega (arith, count-all t table said)))
+
+-- row by row, as a loop has them
+pub row-next : (t : Listing) (k : ℕ) {m : ℕ} {r : Row} → m ≡ length (all_rows t) → k < m → (k < length (all_rows t) → r ≡ get_or (all_rows t) k no_row)
+    → drop k (all_rows t) ≡ r ∷ drop (k + 1) (all_rows t)
+row-next t k e h f =
+    rw (add-one, drop-cons (all_rows t) k no_row (omega arith)) (ap {B = List Row} (λ r. r ∷ drop (suc k) (all_rows t)) (sym (f (omega arith))))
+
+pub row-end : (t : Listing) (k : ℕ) {m : ℕ} → m ≡ length (all_rows t) → m ≤ k → drop k (all_rows t) ≡ []
+row-end t k e h = drop_of_length-le (all_rows t) {i = k} (omega arith)

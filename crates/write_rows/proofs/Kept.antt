@@ -2,19 +2,16 @@
 use mathlib.Core.Path.{◌≡◌, refl, ap, ◌∙◌}
 use mathlib.Core.Bool.{Bool, true, false, ◌&&◌, ◌||◌, not, cond}
 use mathlib.Core.List.{List, [], ◌∷◌}
-use Prim.Native.Nat.{ℕ, zero, suc, ◌+◌, ◌%◌, ◌≤◌, ◌<◌, min, max}
+use Prim.Native.Nat.{ℕ, zero, suc, ◌+◌, ◌%◌, ◌<◌, min, max}
 use native.Mathlib.Omega.{arith}
-use lib.ListN.{length, get_or, drop}
 use lib.Dec.{eqb}
 use lib.Bits.{bit_and, bit_or, bit_xor}
 use Rattle.sets.specs.Sets.{has}
 use Rattle.sets.proofs.Members.{has-lt, has-and, has-or, has-xor}
 use Rattle.rules.specs.Text.{digit, dash, nought, one}
-use Rattle.rules.specs.Listing.{no_row, rows_of, some, meets}
+use Rattle.rules.specs.Listing.{some, meets}
 use Rattle.rules.specs.Cover.{says_one, shares_one, output_at}
 use Rattle.rules.specs.declared.Row.{Row}
-use Rattle.rules.specs.declared.Listing.{Listing}
-use Rattle.rules.proofs.Rows.{row_here, row-none}
 use Rattle.write_rows.specs.Rows.{said_one, kept_row}
 
 -- ---- the outputs that are said 1

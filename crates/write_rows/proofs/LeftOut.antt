@@ -1,22 +1,18 @@
--- Which rows are left out, bit by bit and test by test, and how many have a line, row by row.
-use mathlib.Core.Path.{◌≡◌, refl, sym, ap, ap₂, ◌∙◌}
-use mathlib.Core.Bool.{Bool, true, false, ◌&&◌, not, and-true, and-false}
-use mathlib.Core.List.{List, [], ◌∷◌, ◌++◌}
+-- Which codes are all zeros, bit by bit, and how many rows have a line, row by row.
+use mathlib.Core.Path.{◌≡◌, refl, ap, ◌∙◌}
+use mathlib.Core.Bool.{Bool, true, false, ◌&&◌, not}
+use mathlib.Core.List.{List, [], ◌∷◌}
 use Prim.Native.Nat.{ℕ, ◌+◌, ◌≤◌, ◌<◌}
 use native.Mathlib.Numerals.{add-one}
-use native.Mathlib.Omega.{arith}
 use lib.ListN.{length, get_or, drop, length-append, drop_of_length-le}
 use lib.Seq.{drop-cons}
 use lib.Dec.{eqb}
 use lib.Bits.{bit_and}
 use borrow.Author.Tests.{eq-eqb, ne_eqb}
 use Rattle.rules.specs.Text.{digit}
-use Rattle.rules.specs.Listing.{no_row, rows_of}
-use Rattle.rules.specs.Cover.{next_code, zeros, says_nothing, is_left_out, printed_rows}
+use Rattle.rules.specs.Cover.{next_code, zeros, is_left_out, printed_rows}
 use Rattle.rules.specs.declared.Head.{Head}
 use Rattle.rules.specs.declared.Row.{Row}
-use Rattle.rules.specs.declared.Listing.{Listing}
-use Rattle.rules.proofs.Rows.{row_here, row-none}
 use Rattle.rules.proofs.Printed.{printed-none, printed-out, printed-in, printed-append}
 
 -- ---- a code that is all zeros, bit by bit
@@ -35,32 +31,6 @@ module _ (bits : List ℕ) (next k : ℕ) where
   pub zeros-end : length bits ≤ k → zeros (next_code (drop k bits) next) ≡ true
   unfolding zeros
   zeros-end h = ap (λ (bs : List ℕ). zeros (next_code bs next)) (drop_of_length-le bits {i = k} h)
-
--- ---- a row, test by test
-
-module _ (h : Head) (bits : List ℕ) (r : Row) where
-  abbrev code : Bool
-  code = zeros (next_code bits r.next)
-
-  tests : {k o d : Bool} → h.keeps ≡ k → eqb r.outputs.ones 0 ≡ o → eqb r.outputs.dashes 0 ≡ d → is_left_out h bits r ≡ (not k && (code && (o && d)))
-  unfolding is_left_out says_nothing
-  tests p q s = rw (p, q, s)
-
-  none : (k c : Bool) → (not k && (c && false)) ≡ false
-  none true c = refl
-  none false c = and-false c
-
-  pub in_kept : h.keeps ≡ true → is_left_out h bits r ≡ false
-  in_kept e = tests e refl refl
-
-  pub in_ones : (r.outputs.ones ≡ 0 → ⊥) → is_left_out h bits r ≡ false
-  in_ones o = tests refl (ne_eqb r.outputs.ones 0 o) refl ∙ none h.keeps code
-
-  pub in-dashes : r.outputs.ones ≡ 0 → (r.outputs.dashes ≡ 0 → ⊥) → is_left_out h bits r ≡ false
-  in-dashes e o = tests refl (eq-eqb r.outputs.ones 0 e) (ne_eqb r.outputs.dashes 0 o) ∙ none h.keeps code
-
-  pub by_code : h.keeps ≡ false → r.outputs.ones ≡ 0 → r.outputs.dashes ≡ 0 → is_left_out h bits r ≡ code
-  by_code k e d = tests k (eq-eqb r.outputs.ones 0 e) (eq-eqb r.outputs.dashes 0 d) ∙ and-true code
 
 -- ---- how many have a line, row by row
 

@@ -1,11 +1,11 @@
 // The rows of a cover: those of a listing and those that the states of a Moore machine add, which of them have a line, and which dashes a row keeps.
 #![tactic(auto)]
 
-ghost use Rattle.std.specs.Prelude.{◌≡◌, cond, [], ◌∷◌, length};
+ghost use Rattle.std.specs.Prelude.{◌≡◌, ◌<◌, cond, [], ◌∷◌, length, slice_index_or};
 ghost use Rattle.std.specs.Int.Bits.{bit_or};
-ghost use Rattle.rules.specs.Listing.{all_rows, meets};
+ghost use Rattle.rules.specs.Listing.{no_row, all_rows, meets};
 ghost use Rattle.rules.specs.Cover.{next_code, zeros, is_left_out, printed_rows};
-ghost use Rattle.write_rows.specs.Rows.{row_count, state_at, row_at, said_one, kept_row};
+ghost use Rattle.write_rows.specs.Rows.{row_count, state_at, row_at, row_of, said_one, kept_row};
 
 use rules::{Head, Listing, Pattern, Row};
 
@@ -24,10 +24,7 @@ pub fn row_count(head: Head, rows: usize) -> usize
 pub fn state_at(n: usize, k: usize) -> usize
     ensures { result ≡ state_at n k }
 {
-    if k < n {
-        return 0;
-    }
-    sets::least(k - n, rules::MOST_STATES - 1)
+    sets::least(k.saturating_sub(n), rules::MOST_STATES - 1)
 }
 
 // Row k of all: one of the n rows of the listing, or that of a state with these outputs.
@@ -37,13 +34,12 @@ pub fn row_at(n: usize, k: usize, row: Row, outputs: Pattern) -> Row
     if k < n {
         return row;
     }
-    let input = Pattern {
-        ones: 0,
-        dashes: rules::EVERY_INPUT,
-    };
     let group = 1 << state_at(n, k);
     Row {
-        input,
+        input: Pattern {
+            ones: 0,
+            dashes: rules::EVERY_INPUT,
+        },
         group,
         next: 0,
         outputs,
@@ -51,16 +47,25 @@ pub fn row_at(n: usize, k: usize, row: Row, outputs: Pattern) -> Row
     }
 }
 
+// Row k of all that a listing says; some row behind the last.
+pub fn row_of(t: &Listing, k: usize) -> Row
+    ensures made { result ≡ row_of t.now k }
+    ensures listed { k < length (all_rows t.now) → result ≡ slice_index_or (all_rows t.now) k no_row }
+{
+    let n = sets::least(t.rows, rules::MOST_ROWS);
+    let place = sets::least(k, rules::MOST_ROWS - 1);
+    let state = state_at(n, k);
+    row_at(n, k, t.table[place], t.said[state])
+}
+
 // Whether the code of a row's next state is all zeros.
 fn is_zeros(bits: &[u64], next: u64) -> bool
     ensures { result ≡ zeros (next_code bits.now next) }
 {
-    let mut k: usize = 0;
-    while k < bits.len() {
-        if bits[k] & next != 0 {
+    for &b in bits {
+        if b & next != 0 {
             return false;
         }
-        k += 1;
     }
     true
 }
@@ -69,42 +74,23 @@ fn is_zeros(bits: &[u64], next: u64) -> bool
 pub fn is_left_out(head: Head, bits: &[u64], row: Row) -> bool
     ensures { result ≡ is_left_out head bits.now row }
 {
-    if head.keeps {
-        return false;
-    }
-    if row.outputs.ones != 0 {
-        return false;
-    }
-    if row.outputs.dashes != 0 {
-        return false;
-    }
-    is_zeros(bits, row.next)
+    !head.keeps && row.outputs.ones == 0 && row.outputs.dashes == 0 && is_zeros(bits, row.next)
 }
 
 // How many lines a row has: one or none.
 fn line_count(head: Head, bits: &[u64], row: Row) -> usize
     ensures { result ≡ length (printed_rows head bits.now (row ∷ [])) }
 {
-    if is_left_out(head, bits, row) {
-        return 0;
-    }
-    1
+    if is_left_out(head, bits, row) { 0 } else { 1 }
 }
 
 // How many rows of all that a listing says have a line.
 pub fn printed_count(t: Listing, bits: &[u64]) -> usize
     ensures { result ≡ length (printed_rows t.head bits.now (all_rows t)) }
 {
-    let n = sets::least(t.rows, rules::MOST_ROWS);
-    let all = row_count(t.head, t.rows);
-    let mut count: usize = 0;
-    let mut k: usize = 0;
-    while k < all {
-        let place = sets::least(k, rules::MOST_ROWS - 1);
-        let state = state_at(n, k);
-        let row = row_at(n, k, t.table[place], t.said[state]);
-        count += line_count(t.head, bits, row);
-        k += 1;
+    let mut count = 0;
+    for k in 0..row_count(t.head, t.rows) {
+        count += line_count(t.head, bits, row_of(&t, k));
     }
     count
 }
@@ -114,25 +100,19 @@ fn with_said(row: Row, q: Row, mask: u32) -> u32
     ensures { result ≡ cond (meets row q) (bit_or mask q.outputs.ones) mask }
 {
     if sharing::meet(row, q) {
-        return mask | q.outputs.ones;
+        mask | q.outputs.ones
+    } else {
+        mask
     }
-    mask
 }
 
 // The outputs that `row`, or a row of all that meets it, says are 1.
 fn said_one(t: Listing, row: Row) -> u32
     ensures { result ≡ said_one row row.outputs.ones (all_rows t) }
 {
-    let n = sets::least(t.rows, rules::MOST_ROWS);
-    let all = row_count(t.head, t.rows);
     let mut mask = row.outputs.ones;
-    let mut k: usize = 0;
-    while k < all {
-        let place = sets::least(k, rules::MOST_ROWS - 1);
-        let state = state_at(n, k);
-        let q = row_at(n, k, t.table[place], t.said[state]);
-        mask = with_said(row, q, mask);
-        k += 1;
+    for k in 0..row_count(t.head, t.rows) {
+        mask = with_said(row, row_of(&t, k), mask);
     }
     mask
 }
@@ -141,16 +121,11 @@ fn said_one(t: Listing, row: Row) -> u32
 pub fn kept_row(t: Listing, row: Row) -> Row
     ensures { result ≡ kept_row (all_rows t) row }
 {
-    let input = row.input;
     let ones = row.outputs.ones;
     let free = row.outputs.dashes;
     let dashes = free ^ (free & said_one(t, row));
-    let outputs = Pattern { ones, dashes };
     Row {
-        input,
-        group: row.group,
-        next: row.next,
-        outputs,
-        line: row.line,
+        outputs: Pattern { ones, dashes },
+        ..row
     }
 }

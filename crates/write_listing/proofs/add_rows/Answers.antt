@@ -1,11 +1,13 @@
--- `write_listing::add_rows` meets its contract. The loop's invariant: what is added is the lines of the first k rows.
+-- `write_listing::add_rows` meets its contract. The loop's invariant: what is added is the lines of the rows passed.
 use mathlib.Core.Path.{◌≡◌, sym, ap, ◌∙◌}
 use mathlib.Core.List.{List}
 use Prim.Native.Nat.{ℕ}
-use native.Mathlib.Omega.{arith}
 use borrow.Author.Rules.{rules}
 use lib.ListN.{length, take}
+use lib.Seq.{take_all}
+use Rattle.sets.proofs.Places.{take-most}
 use Rattle.rules.specs.Limits.{most_rows}
+use Rattle.rules.specs.declared.Row.{Row}
 use Rattle.write_pen.proofs.Growing.{take-one}
 use Rattle.write_parts.specs.Parts.{added_all}
 use Rattle.write_parts.proofs.Adding.{all_none, all_then}
@@ -17,19 +19,26 @@ use Rattle.write_listing.proofs.add_rows.Goals as goal
 table-long : (c : Start) → length c.args.t.table ≡ most_rows
 table-long c = search rules
 
-pub loop-k-init : goal.loop-k-init
-loop-k-init c =
+pub loop-row-init : goal.loop-row-init
+loop-row-init c =
     let a = c.args in
-    (omega arith, sym (ap (λ (ls : List (List ℕ)). added_all ls (a.part, a.out.now)) (rows_none a.t.head) ∙ all_none (a.part, a.out.now)))
+    sym (ap (λ (ls : List (List ℕ)). added_all ls (a.part, a.out.now)) (rows_none a.t.head) ∙ all_none (a.part, a.out.now))
 
-pub loop-k-preserved : goal.loop-k-preserved
-loop-k-preserved c =
+pub loop-row-preserved : goal.loop-row-preserved
+loop-row-preserved c =
     let a = c.args in
-    let less = c.loop-k-test in (
-      omega (arith, less),
-      all_then (row_lines a.t.head (take c.loop-k.k a.t.table)) _ (a.part, a.out.now) (c.loop-k.to, c.loop-k.out) _ c.loop-k.invariant.1 c.add_row-to.ensures
-          ∙ ap (λ (ls : List (List ℕ)). added_all ls (a.part, a.out.now))
-          (sym
-          (ap (row_lines a.t.head) (take-one a.t.table c.loop-k.k _ (omega (arith, table-long (goal.at.loop-k-preserved c).Start, c.least-n.ensures, less)))
-          ∙ rows_more a.t.head (take c.loop-k.k a.t.table) _)),
-    )
+    let items = take c.least-n.result a.t.table in
+    all_then (row_lines a.t.head (take c.loop-row.row-index items)) _ (a.part, a.out.now) (c.loop-row.to, c.loop-row.out) _ c.loop-row.invariant c.add_row-to.ensures
+    ∙ ap (λ (ls : List (List ℕ)). added_all ls (a.part, a.out.now))
+    (sym
+    (ap (row_lines a.t.head) (take-one items c.loop-row.row-index _ c.loop-row-test.true)
+    ∙ rows_more a.t.head (take c.loop-row.row-index items) _))
+
+pub returns : goal.returns
+returns c =
+    let a = c.args in
+    c.loop-row.invariant
+    ∙ ap (λ (rs : List Row). added_all (row_lines a.t.head rs) (a.part, a.out.now))
+    (take_all c.loop-row.row-index (take c.least-n.result a.t.table) c.loop-row-test.false
+    ∙ ap (λ (n : ℕ). take n a.t.table) c.least-n.ensures
+    ∙ take-most a.t.rows most_rows a.t.table (table-long (goal.at.returns c).Start))

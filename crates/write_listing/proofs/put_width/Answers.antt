@@ -8,7 +8,7 @@ returns-then-keeps c =
     let a = c.args in
     wrote_as (wrote_then c.put_field-p.ensures c.put_bytes.ensures) (width-kept a.width a.keeps c.if-keeps.true)
 
-pub returns : goal.returns
-returns c =
+pub returns-else-keeps : goal.returns-else-keeps
+returns-else-keeps c =
     let a = c.args in
     wrote_as c.put_field.ensures (width-plain a.width a.keeps c.if-keeps.false)

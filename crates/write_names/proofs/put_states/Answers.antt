@@ -1,35 +1,39 @@
 -- `write_names::put_states` meets its contract. The loop's invariant: what is written is the lines of the first i names.
-use mathlib.Core.Path.{◌≡◌, sym, ◌∙◌}
+use mathlib.Core.Path.{◌≡◌, sym, ap, ◌∙◌}
+use Prim.Native.Nat.{◌<◌}
 use native.Mathlib.Omega.{arith}
 use borrow.Author.Rules.{rules}
-use lib.ListN.{length}
-use Rattle.read_names.specs.Names.{names_in}
+use lib.ListN.{length, length-take}
+use lib.Seq.{get_or-take}
+use Rattle.read_names.specs.Names.{piece_of, names_in}
 use Rattle.read_names.proofs.Found.{names-length, name-at}
 use Rattle.write_pen.proofs.Laws.{wrote_none, wrote_then, wrote_as}
-use Rattle.write_names.proofs.Lines.{lines_none, lines-one}
+use Rattle.write_names.proofs.Lines.{lines_none, lines-one, lines-all}
+use Rattle.write_names.proofs.put_states.Goals.{Start}
 use Rattle.write_names.proofs.put_states.Goals as goal
 
+places-long : (c : Start) → length c.args.names.places ≡ 64
+places-long c = search rules
+
 pub loop-i-init : goal.loop-i-init
-loop-i-init c =
-    let a = c.args in
-    let l : length a.names.places ≡ 64 = (search rules) in (
-      names-length a.text.now a.names ∙ omega (arith, c.least-n.ensures),
-      omega (arith, c.least-n.ensures),
-      omega (arith, c.least-n.ensures),
-      omega arith,
-      l,
-      wrote_as (wrote_none _ _ (omega arith) (omega arith)) (lines_none (names_in a.text.now a.names)),
-    )
+loop-i-init c = wrote_as (wrote_none _ _ (omega arith) (omega arith)) (lines_none (names_in c.args.text.now c.args.names))
 
 pub loop-i-preserved : goal.loop-i-preserved
 loop-i-preserved c =
     let a = c.args in
     let names = names_in a.text.now a.names in
-    let name = c.bytes_of.ensures ∙ sym (name-at a.text.now a.names c.loop-i.i (omega (arith, c.loop-i.invariant.2)) (omega (arith, c.loop-i.invariant.1, c.loop-i.invariant.4))) in (
-      c.loop-i.invariant.0,
-      c.loop-i.invariant.1,
-      c.loop-i.invariant.2,
-      omega arith,
-      c.loop-i.invariant.4,
-      wrote_as (wrote_then c.loop-i.invariant.5 c.put_line-to.ensures) (lines-one names c.loop-i.i (omega (arith, c.loop-i.invariant.0)) name),
-    )
+    let long = places-long (goal.at.loop-i-preserved c).Start in
+    let few : c.loop-i.i < c.least-n.result = omega (arith, c.loop-i-test.true, length-take c.least-n.result a.names.places) in
+    let name =
+    c.bytes_of.ensures
+    ∙ ap (piece_of a.text.now) (get_or-take c.least-n.result a.names.places c.loop-i.i _ few)
+    ∙ sym (name-at a.text.now a.names c.loop-i.i (omega (arith, c.least-n.ensures)) (omega (arith, c.least-n.ensures, long))) in
+    wrote_as (wrote_then c.loop-i.invariant c.put_line-to.ensures) (lines-one names c.loop-i.i (omega (arith, names-length a.text.now a.names, c.least-n.ensures, long)) name)
+
+pub returns : goal.returns
+returns c =
+    let a = c.args in
+    let long = places-long (goal.at.returns c).Start in
+    wrote_as c.loop-i.invariant
+    (lines-all (names_in a.text.now a.names) c.loop-i.i
+    (omega (arith, names-length a.text.now a.names, c.least-n.ensures, long, c.loop-i-test.false, length-take c.least-n.result a.names.places)))

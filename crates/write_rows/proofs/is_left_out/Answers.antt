@@ -1,17 +1,13 @@
 -- `write_rows::is_left_out` meets its contract.
-use mathlib.Core.Path.{sym, ◌∙◌}
-use Rattle.write_rows.proofs.LeftOut.{in_kept, in_ones, in-dashes, by_code}
+use Rattle.std.proofs.Common.{arith}
+use Rattle.std.proofs.lemmas.Grind.{common_steps}
+use Rattle.rules.specs.Cover.{is_left_out, says_nothing}
 use Rattle.write_rows.proofs.is_left_out.Goals as goal
 
-pub returns-then-head : goal.returns-then-head
-returns-then-head c = sym (in_kept _ _ _ c.if-head.true)
+pub returns-then-row-eq0-2 : goal.returns-then-row-eq0-2
+unfolding is_left_out says_nothing
+returns-then-row-eq0-2 c = grind (arith, common_steps)
 
-pub returns-then-row-ne0 : goal.returns-then-row-ne0
-returns-then-row-ne0 c = sym (in_ones _ _ _ c.if-row-ne0.true)
-
-pub returns-then-row-ne0-2 : goal.returns-then-row-ne0-2
-returns-then-row-ne0-2 c = sym (in-dashes _ _ _ c.if-row-ne0.false c.if-row-ne0-2.true)
-
-pub returns : goal.returns
-returns c =
-    c.is_zeros.ensures ∙ sym (by_code _ _ _ c.if-head.false c.if-row-ne0.false c.if-row-ne0-2.false)
+pub returns-else-row-eq0-2 : goal.returns-else-row-eq0-2
+unfolding is_left_out says_nothing
+returns-else-row-eq0-2 c = grind (arith, common_steps)

@@ -4,17 +4,17 @@ use native.Mathlib.Omega.{arith}
 use Rattle.write_rows.proofs.LeftOut.{zero-here, one-here, zeros-end}
 use Rattle.write_rows.proofs.is_zeros.Goals as goal
 
-pub returns-then-bits-k-ne0 : goal.returns-then-bits-k-ne0
-returns-then-bits-k-ne0 c =
+pub returns-then-b-next-ne0 : goal.returns-then-b-next-ne0
+returns-then-b-next-ne0 c =
     let a = c.args in
-    sym (one-here a.bits.now a.next c.loop-k.k (omega arith) c.if-bits-k-ne0.true) ∙ c.loop-k.invariant.1
+    sym (one-here a.bits.now a.next c.loop-b.b-index (omega arith) c.if-b-next-ne0.true) ∙ c.loop-b.invariant
 
-pub loop-k-preserved : goal.loop-k-preserved
-loop-k-preserved c =
+pub loop-b-preserved : goal.loop-b-preserved
+loop-b-preserved c =
     let a = c.args in
-    (omega arith, sym (zero-here a.bits.now a.next c.loop-k.k (omega arith) c.if-bits-k-ne0.false) ∙ c.loop-k.invariant.1)
+    sym (zero-here a.bits.now a.next c.loop-b.b-index (omega arith) c.if-b-next-ne0.false) ∙ c.loop-b.invariant
 
 pub returns : goal.returns
 returns c =
     let a = c.args in
-    sym (zeros-end a.bits.now a.next c.loop-k.k (omega arith)) ∙ c.loop-k.invariant.1
+    sym (zeros-end a.bits.now a.next c.loop-b.b-index (omega arith)) ∙ c.loop-b.invariant
