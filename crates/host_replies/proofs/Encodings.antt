@@ -18,7 +18,7 @@ use Rattle.rules.proofs.SoundCode.{code-built}
 use Rattle.rules.proofs.Least.{least-coded}
 use Rattle.move_table.proofs.Ready.{sound-ready}
 use Rattle.code_fair.proofs.FairListings.{sound-fair}
-use Rattle.code_encoding.specs.Encode.{encoded_as, encoded}
+use Rattle.code_encoding.specs.Encode.{encoding_of, encoded_as, encoded}
 use Rattle.code_encoding.proofs.Answered.{encoded-is}
 use Rattle.code_least.specs.Encode.{least_encoded}
 use Rattle.code_least.proofs.Answers.{least-is}
@@ -33,8 +33,8 @@ pub record Whole (t : Listing) (code : Code) (e : Encoding) : Type 0 where
   pub few-passes : e.passes < 2 ^ 64
   pub few-looks : e.looks < 2 ^ 64
 
-pub held : (t : Listing) (c : Code) → Holds t c (encoded_as t (coded c))
-unfolding encoded_as
+pub held : (t : Listing) (c : Code) → Holds t c (encoding_of t c)
+unfolding encoding_of
 held t c = record {
   width = refl;
   bits = take-append_seam c.bits (replicate (most_bits - length c.bits) 0);
@@ -55,8 +55,8 @@ module _ (t : Listing) (s : Sound t) where
     counters : FewIn (most_of t) c
     counters = subst (FewIn (most_of t)) (was-built t c e) (few-counted (most_of t) t.head.states (requirements t) (sound-ready t s))
 
-    pub whole-as : Whole t c (encoded_as t (coded c))
-    unfolding encoded_as
+    pub whole-as : Whole t c (encoding_of t c)
+    unfolding encoding_of
     whole-as = record {
       sound = s;
       holds = held t c;
@@ -69,8 +69,8 @@ module _ (t : Listing) (s : Sound t) where
   fair-encoded = sym (encoded-is t true (sound-fair t s))
 
   -- the least code has at most 5 bits, and took no pass and no look
-  pub whole-least : (c : Code) → least_coding t ≡ coded c → Whole t c (encoded_as t (coded c))
-  unfolding encoded_as
+  pub whole-least : (c : Code) → least_coding t ≡ coded c → Whole t c (encoding_of t c)
+  unfolding encoding_of
   whole-least c e =
       let l = least-coded t c e in
       record {

@@ -17,7 +17,9 @@ use Rattle.write_parts.proofs.Adding.{Lent}
 use Rattle.rules.proofs.Ended.{Pieces}
 use Rattle.write_parts.proofs.Parted.{Made, made, whole_part}
 use Rattle.host_replies.specs.Saying.{saying, saying_part}
-use Rattle.host_replies.specs.declared.Said.{Said}
+use Rattle.rules.specs.Refusals.{refused}
+use Rattle.rules.specs.declared.Refused.{Refused}
+use Rattle.std.specs.Prelude.{Ok, Result}
 
 empty : (l : List ℕ) → length l ≡ 0 → l ≡ []
 empty [] e = refl
@@ -26,11 +28,11 @@ empty (x ∷ l) e = absurd (omega arith)
 -- ---- a refusal
 
 module _ {reply : Reply} (r : Refusal) (k : ℕ) (h : reply ≡ refuses r k) (out : List ℕ) where
-  pub refused-said : (Said.Refused r k, out) ≡ saying reply out
+  pub refused-said : (refused r k, out) ≡ saying reply out
   unfolding saying
   refused-said = sym (ap (λ (x : Reply). saying x out) h)
 
-  pub refused-part : (from : ℕ) → (Said.Refused r k, out) ≡ saying_part reply from out
+  pub refused-part : (from : ℕ) → (refused r k, out) ≡ saying_part reply from out
   unfolding saying_part
   refused-part from = sym (ap (λ (x : Reply). saying_part x from out) h)
 
@@ -40,19 +42,19 @@ module _ {reply : Reply} (ls : List (List ℕ)) (lines : Pieces ls) (h : reply �
   abbrev text : List ℕ
   text = joined_lines ls
 
-  pub no-space : ltb (length out) (length text) ≡ true → (Said.Refused NoRoom 0, out) ≡ saying reply out
+  pub no-space : ltb (length out) (length text) ≡ true → (refused NoRoom 0, out) ≡ saying reply out
   unfolding saying
   no-space f =
       let longer : length out < length text = ltb-true (length out) (length text) f in
       sym (ap (λ (x : Reply). saying x out) h ∙ rw (lt-leb (length text) (length out) longer))
 
-  pub whole-said : ltb (length out) (length text) ≡ false → (s : Lent) → s ≡ added_all ls (begun 0, out) → (Said.Text s.0.given, s.1) ≡ saying reply out
+  pub whole-said : ltb (length out) (length text) ≡ false → (s : Lent) → s ≡ added_all ls (begun 0, out) → (Ok s.0.given, s.1) ≡ saying reply out
   unfolding saying
   whole-said f s e =
       let fits : length text ≤ length out = ltb-false (length out) (length text) f in
       let m : Made text 0 out s = rw e (made ls lines 0 out) in
       let p : part (length out) 0 text ≡ text = whole_part (length out) ls lines fits in
-      ap₂ (λ (n : ℕ) (o : List ℕ). (Said.Text n, o)) (m.given ∙ ap length p) (m.holds ∙ ap (λ (l : List ℕ). l ++ drop (length l) out) p)
+      ap₂ (λ (n : ℕ) (o : List ℕ). (Ok n, o)) (m.given ∙ ap length p) (m.holds ∙ ap (λ (l : List ℕ). l ++ drop (length l) out) p)
       ∙ sym (ap (λ (x : Reply). saying x out) h ∙ rw (le-leb (length text) (length out) fits))
 
   -- ---- a part
@@ -64,26 +66,26 @@ module _ {reply : Reply} (ls : List (List ℕ)) (lines : Pieces ls) (h : reply �
     abbrev given : List ℕ
     given = part (length out) from text
 
-    abbrev gives : Bool → Said × List ℕ
-    gives b = cond b (Said.Text (length given), given ++ drop (length given) out) (Said.Refused NoRoom 0, out)
+    abbrev gives : Bool → Result ℕ Refused × List ℕ
+    gives b = cond b (Ok (length given), given ++ drop (length given) out) (refused NoRoom 0, out)
 
     by-room : (b : Bool) → gets_on (length out) from text ≡ b → gives b ≡ saying_part reply from out
     unfolding saying_part
     by-room b q = sym (ap (λ (x : Reply). saying_part x from out) h ∙ ap gives q)
 
     -- nothing was given, and something is left
-    pub part-waits : s.0.given ≡ 0 → s.0.full ≡ true → (Said.Refused NoRoom 0, s.1) ≡ saying_part reply from out
+    pub part-waits : s.0.given ≡ 0 → s.0.full ≡ true → (refused NoRoom 0, s.1) ≡ saying_part reply from out
     unfolding gets_on
     part-waits z f =
         let none : length given ≡ 0 = sym here.given ∙ z in
         let left : length given < length (drop from text) = ltb-true (length given) (length (drop from text)) (sym here.full ∙ f) in
         let stuck : gets_on (length out) from text ≡ false =
         rw (lt-leb 1 (length given) (omega arith), lt-leb (length text) from (omega (arith, length-drop from text))) in
-        ap (λ (o : List ℕ). (Said.Refused NoRoom 0, o)) (here.holds ∙ ap (λ (l : List ℕ). l ++ drop (length l) out) (empty given none)) ∙ by-room false stuck
+        ap (λ (o : List ℕ). (refused NoRoom 0, o)) (here.holds ∙ ap (λ (l : List ℕ). l ++ drop (length l) out) (empty given none)) ∙ by-room false stuck
 
-    pub part-said : (s.0.given ≡ 0 → s.0.full ≡ false) → (Said.Text s.0.given, s.1) ≡ saying_part reply from out
+    pub part-said : (s.0.given ≡ 0 → s.0.full ≡ false) → (Ok s.0.given, s.1) ≡ saying_part reply from out
     unfolding gets_on
-    part-said g = ap₂ (λ (n : ℕ) (o : List ℕ). (Said.Text n, o)) here.given here.holds ∙ by-room true (go (leb 1 (length given)) refl)
+    part-said g = ap₂ (λ (n : ℕ) (o : List ℕ). (Ok n, o)) here.given here.holds ∙ by-room true (go (leb 1 (length given)) refl)
       where
         go : (b : Bool) → leb 1 (length given) ≡ b → (b || leb (length text) from) ≡ true
         go true q = refl

@@ -14,6 +14,7 @@ use Rattle.rules.specs.Widths.{with_width, bits_of, covered, width_lines, widths
 use Rattle.rules.specs.declared.Listing.{Listing}
 use Rattle.rules.specs.declared.Encoding.{Encoding}
 use Rattle.rules.proofs.Sound.{Sound}
+use Rattle.rules.proofs.Ways.{same-accepted}
 use Rattle.rules.proofs.Built.{was-built}
 use Rattle.rules.proofs.Good.{requirements-good}
 use Rattle.code_fair.proofs.FairListings.{sound-fair}
@@ -22,6 +23,7 @@ use Rattle.code_drawing.specs.Drawing.{dichotomy_words, first_families, all_fami
 use Rattle.write_widths.specs.Widths.{encoded_widths}
 use Rattle.write_widths.proofs.Same.{same-widths}
 use Rattle.host_replies.proofs.Encodings.{Whole, fair-encoded, whole-as}
+use Rattle.std.specs.Prelude.{Ok}
 
 -- ---- the listing with the greatest width
 
@@ -52,12 +54,13 @@ unfolding coding requirements pairs_and_groups
 wide-coded t = refl
 
 -- its code is held whole
-pub whole_wide : (t : Listing) → Sound t → (e : Encoding) → e ≡ encoded (with_width most_bits t) → Whole (with_width most_bits t) (build most_bits t.head.states (requirements t)) e
+pub whole_wide : (t : Listing) → Sound t → (e : Encoding) → Ok e ≡ encoded (with_width most_bits t) → Whole (with_width most_bits t) (build most_bits t.head.states (requirements t)) e
+unfolding encoded_as
 whole_wide t s e h =
     let u : Listing = with_width most_bits t in
     let w : Sound u = sound-wide t s in
     let c : Code = build most_bits t.head.states (requirements t) in
-    subst (Whole u c) (sym (h ∙ fair-encoded u w ∙ ap (encoded_as u) (wide-coded t))) (whole-as u w c (wide-coded t))
+    subst (Whole u c) (sym (same-accepted (h ∙ fair-encoded u w ∙ ap (encoded_as u) (wide-coded t)))) (whole-as u w c (wide-coded t))
 
 -- and its widths are the listing's own
 pub same-listing : (t : Listing) → widths (with_width most_bits t) ≡ widths t

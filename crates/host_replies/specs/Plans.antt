@@ -1,31 +1,30 @@
 -- What can be wanted of any bytes: the form in which they are read, the way in which the listing is coded, and the text that is written.
-use Rattle.std.specs.Prelude.{Bool, true, false, cond, List, ℕ}
+use Rattle.std.specs.Prelude.{Bool, true, false, cond, List, ℕ, Ok, Result}
 use Rattle.rules.specs.Limits.{most_bits}
-use Rattle.rules.specs.Listing.{reading}
+use Rattle.rules.specs.Listing.{reading, Reading}
 use Rattle.rules.specs.Least.{small_reading}
 use Rattle.rules.specs.Kiss.{kiss_reading}
 use Rattle.rules.specs.declared.Listing.{Listing}
 use Rattle.rules.specs.declared.Encoding.{Encoding}
-use Rattle.rules.specs.declared.Reading.{Reading}
-use Rattle.rules.specs.declared.Verdict.{Verdict}
-use Rattle.code_encoding.specs.Encode.{no_encoding, encoded}
+use Rattle.code_encoding.specs.Encode.{no_code, encoded}
 use Rattle.code_least.specs.Encode.{least_encoded}
 use Rattle.write_texts.specs.declared.Text.{Text}
 use Rattle.host_replies.specs.declared.plans.Wanted.{Wanted}
 use Rattle.host_replies.specs.declared.plans.Form.{Form}
 use Rattle.host_replies.specs.declared.plans.Way.{Way}
 use Rattle.host_replies.specs.declared.plans.Plan.{Plan}
+use Rattle.rules.specs.declared.Refused.{Refused}
 
 -- one line for each
 unfoldable pub plan_of : Wanted → Plan
-plan_of Wanted.Report = record { 0 = Form.Listing; 1 = Way.Built; 2 = Text.Report }
-plan_of Wanted.Cover = record { 0 = Form.Listing; 1 = Way.Built; 2 = Text.Cover }
-plan_of Wanted.Widths = record { 0 = Form.Listing; 1 = Way.Built; 2 = Text.Widths }
-plan_of Wanted.Least = record { 0 = Form.Small; 1 = Way.Least; 2 = Text.Report }
-plan_of Wanted.LeastCover = record { 0 = Form.Small; 1 = Way.Least; 2 = Text.Cover }
-plan_of Wanted.KissReport = record { 0 = Form.Kiss; 1 = Way.Built; 2 = Text.Report }
-plan_of Wanted.KissCover = record { 0 = Form.Kiss; 1 = Way.Built; 2 = Text.Cover }
-plan_of Wanted.KissListing = record { 0 = Form.Kiss; 1 = Way.Uncoded; 2 = Text.Listing }
+plan_of Wanted.Report = record { form = Form.Listing; way = Way.Built; text = Text.Report }
+plan_of Wanted.Cover = record { form = Form.Listing; way = Way.Built; text = Text.Cover }
+plan_of Wanted.Widths = record { form = Form.Listing; way = Way.Built; text = Text.Widths }
+plan_of Wanted.Least = record { form = Form.Small; way = Way.Least; text = Text.Report }
+plan_of Wanted.LeastCover = record { form = Form.Small; way = Way.Least; text = Text.Cover }
+plan_of Wanted.KissReport = record { form = Form.Kiss; way = Way.Built; text = Text.Report }
+plan_of Wanted.KissCover = record { form = Form.Kiss; way = Way.Built; text = Text.Cover }
+plan_of Wanted.KissListing = record { form = Form.Kiss; way = Way.Uncoded; text = Text.Listing }
 
 unfoldable pub is_kiss : Form → Bool
 is_kiss Form.Listing = false
@@ -50,8 +49,8 @@ width_for Text.Widths width = most_bits
 width_for Text.Listing width = width
 
 -- where nothing is coded nothing is refused
-unfoldable pub encoded_by : Way → Listing → Encoding
-unfolding encoded least_encoded no_encoding
+unfoldable pub encoded_by : Way → Listing → Result Encoding Refused
+unfolding encoded least_encoded no_code
 encoded_by Way.Built t = encoded t
 encoded_by Way.Least t = least_encoded t
-encoded_by Way.Uncoded t = no_encoding Verdict.Accepted
+encoded_by Way.Uncoded t = Ok no_code

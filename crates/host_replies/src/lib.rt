@@ -5,55 +5,52 @@
 pub mod plans;
 
 ghost use Rattle.std.specs.Prelude.{◌≡◌, ◌≤◌, ltb, length};
+ghost use Rattle.rules.specs.Answers.{says};
 ghost use Rattle.rules.specs.Kiss.{kiss_reading};
+ghost use Rattle.rules.specs.Listing.{judged};
 ghost use Rattle.rules.specs.Report.{joined_lines};
-ghost use Rattle.rules.specs.declared.Verdict.{Verdict};
-ghost use Rattle.read_answers.specs.Lent.{reading_with};
-ghost use Rattle.code_encoding.specs.Encode.{no_encoding};
 ghost use Rattle.write_parts.specs.Parts.{added_all};
 ghost use Rattle.write_texts.specs.Texts.{text_lines};
 ghost use Rattle.host_replies.specs.Plans.{reading_as, encoded_by};
-ghost use Rattle.host_replies.specs.Ready.{verdict_on, ready, lines_of, reply_of, longest};
+ghost use Rattle.host_replies.specs.Ready.{prepared, ready, lines_of, reply_of, longest};
 ghost use Rattle.host_replies.specs.Saying.{saying, saying_part, reply_to};
 
 use plans::{Form, Wanted, Way};
-use rules::{Encoding, Listing, Reading, Verdict};
+use rules::{Encoding, Listing, Refusal, Refused};
 use write_parts::Part;
 use write_texts::Text;
 
 // So many bytes of room are always enough.
 pub const ROOM: usize = 124799;
 
-// A text of that many bytes, or a refusal and its line.
-#[derive(Clone, Copy)]
-pub enum Said {
-    Text(usize),
-    Refused(rules::Refusal, usize),
-}
-
-// A listing with its code, from which a text can be written, whole or in parts, as often as one likes; or why it is refused.
+// A listing with its code, from which a text can be written, whole or in parts, as often as one likes.
 #[derive(Clone, Copy)]
 pub struct Ready {
     pub text: Text,
-    pub verdict: Verdict,
     pub listing: Listing,
     pub encoding: Encoding,
+}
+
+// What is made of a listing that lies elsewhere: which text, and the code that it is written in.
+#[derive(Clone, Copy)]
+struct Coded {
+    text: Text,
+    encoding: Encoding,
 }
 
 // A KISS2 text, read into a listing that is lent. It keeps a frame of its own, which is left before the next step: inlined, its drafts would stand in the frame of
 // every call on a listing.
 #[inline(never)]
-fn read_kiss_lent(bytes: &[u8], t: &mut Listing) -> Verdict
-    ensures { reading_with result t.new ≡ kiss_reading bytes.now }
+fn read_kiss_lent(bytes: &[u8], t: &mut Listing) -> Result<(), Refused>
+    ensures { judged result t.new ≡ kiss_reading bytes.now }
 {
-    let read = read_kiss::read_kiss(bytes);
-    *t = read.listing;
-    read.verdict
+    *t = read_kiss::read_kiss(bytes)?;
+    Ok(())
 }
 
-// Any bytes, read as a text of that form into a listing that is lent: the verdict, and there the listing. Each reader is called in one place.
-fn read_lent(form: Form, bytes: &[u8], t: &mut Listing) -> Verdict
-    ensures { reading_with result t.new ≡ reading_as form bytes.now }
+// Any bytes, read as a text of that form into a listing that is lent. Each reader is called in one place.
+fn read_lent(form: Form, bytes: &[u8], t: &mut Listing) -> Result<(), Refused>
+    ensures { judged result t.new ≡ reading_as form bytes.now }
 {
     if plans::is_kiss(form) {
         return read_kiss_lent(bytes, t);
@@ -61,96 +58,64 @@ fn read_lent(form: Form, bytes: &[u8], t: &mut Listing) -> Verdict
     read_listing::read_lent(plans::is_small(form), bytes, t)
 }
 
-// The same as one value.
-pub fn read_as(form: Form, bytes: &[u8]) -> Reading
+// Any bytes, read as a text of that form: the listing, or the refusal and its line.
+pub fn read_as(form: Form, bytes: &[u8]) -> Result<Listing, Refused>
     ensures { result ≡ reading_as form bytes.now }
 {
     let mut t = read_answers::blank_listing();
-    let verdict = read_lent(form, bytes, &mut t);
-    Reading {
-        verdict,
-        listing: t,
-    }
-}
-
-// No code, though nothing is refused.
-fn no_code() -> Encoding
-    ensures { result ≡ no_encoding Verdict.Accepted }
-{
-    Encoding {
-        verdict: Verdict::Accepted,
-        width: 0,
-        bits: [0u64; rules::MOST_BITS],
-        asked: 0,
-        unmet: 0,
-        passes: 0,
-        looks: 0,
-    }
+    read_lent(form, bytes, &mut t)?;
+    Ok(t)
 }
 
 // The code of a listing, in that way.
-fn encode_by(way: Way, t: Listing) -> Encoding
+fn encode_by(way: Way, t: Listing) -> Result<Encoding, Refused>
     ensures { result ≡ encoded_by way t }
 {
     match way {
         Way::Built => code_building::encode(t),
         Way::Least => code_least::encode_least(t),
-        Way::Uncoded => no_code(),
+        Way::Uncoded => Ok(code_encoding::no_code()),
     }
 }
 
-// Whether a text is refused: the reader's refusal comes first, then the encoder's, and then, of a cover, 9. The families that it draws have a frame of their own.
+// Any bytes, read into a listing that is lent, and coded once for what is wanted: the reader's refusal comes first, then the encoder's, and then, of a cover, 9.
+// The steps have a frame of their own, which is left before anything is written.
 #[inline(never)]
-fn verdict_on(text: Text, read: Verdict, t: Listing, e: Encoding) -> Verdict
-    ensures { result ≡ verdict_on text read t e }
+fn code_lent(wanted: Wanted, bytes: &[u8], t: &mut Listing) -> Result<Coded, Refused>
+    ensures { prepared t.new result ≡ ready wanted bytes.now }
 {
-    match read {
-        Verdict::Refused(r, line) => Verdict::Refused(r, line),
-        Verdict::Accepted => {
-            let coded = e.verdict;
-            match coded {
-                Verdict::Refused(r, line) => Verdict::Refused(r, line),
-                Verdict::Accepted => write_texts::verdict_of(text, t, e),
-            }
-        }
-    }
+    let plan = plans::plan_of(wanted);
+    let text = plan.text;
+    read_lent(plan.form, bytes, t)?;
+    let width = plans::width_for(text, t.head.width);
+    t.head.width = width;
+    let read = *t;
+    let encoding = encode_by(plan.way, read)?;
+    write_texts::verdict_of(text, read, encoding)?;
+    Ok(Coded { text, encoding })
 }
 
 // Any bytes, read and coded once for what is wanted.
-pub fn prepare(wanted: Wanted, bytes: &[u8]) -> Ready
+pub fn prepare(wanted: Wanted, bytes: &[u8]) -> Result<Ready, Refused>
     ensures { result ≡ ready wanted bytes.now }
 {
-    let plan = plans::plan_of(wanted);
-    let form = plan.0;
-    let way = plan.1;
-    let text = plan.2;
-    let read = read_as(form, bytes);
-    let said = read.verdict;
-    let mut t = read.listing;
-    let width = plans::width_for(text, t.head.width);
-    t.head.width = width;
-    let e = encode_by(way, t);
-    let verdict = verdict_on(text, said, t, e);
-    Ready {
-        text,
-        verdict,
+    let mut t = read_answers::blank_listing();
+    let coded = code_lent(wanted, bytes, &mut t)?;
+    Ok(Ready {
+        text: coded.text,
         listing: t,
-        encoding: e,
-    }
+        encoding: coded.encoding,
+    })
 }
 
 // The lines of the text, added to a part; where it is refused there are none.
-pub fn add_text(ready: Ready, part: Part, out: &mut [u8]) -> Part
+pub fn add_text(ready: Result<Ready, Refused>, part: Part, out: &mut [u8]) -> Part
     ensures { (result, out.new) ≡ added_all (lines_of ready) (part, out.old) }
 {
-    let verdict = ready.verdict;
-    let text = ready.text;
-    match verdict {
-        Verdict::Refused(_, _) => part,
-        Verdict::Accepted => {
-            write_texts::add_lines(text, ready.listing, ready.encoding, part, out)
-        }
-    }
+    let Ok(r) = ready else {
+        return part;
+    };
+    write_texts::add_lines(r.text, r.listing, r.encoding, part, out)
 }
 
 // Whether a text is longer than so many bytes. Where that is not plain, it is measured: with those passed over, and no room, a line is left.
@@ -166,78 +131,59 @@ fn is_longer(text: Text, t: Listing, e: Encoding, len: usize) -> bool
     measured.full
 }
 
-// What is said of any bytes. It reads and codes as `prepare` does, and holds what it has read but once: each step has a frame of its own, which is left before
-// the next, and what is read does not change any more once `t` has it, so that no call makes a copy of it.
-pub fn say(wanted: Wanted, bytes: &[u8], out: &mut [u8]) -> Said
+// A text, whole, or 10 where it does not fit. What is read does not change any more once it stands here, so that no call makes a copy of it.
+#[inline(never)]
+fn say_whole(coded: Coded, t: &Listing, out: &mut [u8]) -> Result<usize, Refused>
+    requires { length (joined_lines (text_lines coded.text t.now coded.encoding)) ≤ longest }
+    ensures { (result, out.new) ≡ saying (says (joined_lines (text_lines coded.text t.now coded.encoding))) out.old }
+{
+    let read = *t;
+    if is_longer(coded.text, read, coded.encoding, out.len()) {
+        return Err(Refusal::NoRoom.at(0));
+    }
+    let written = write_texts::add_lines(coded.text, read, coded.encoding, write_parts::begin(0), out);
+    Ok(written.given)
+}
+
+// The whole lines of a text that fit, from byte `from` on; none where there is no more, and 10 where the next does not fit.
+#[inline(never)]
+fn say_piece(coded: Coded, t: &Listing, from: usize, out: &mut [u8]) -> Result<usize, Refused>
+    ensures { (result, out.new) ≡ saying_part (says (joined_lines (text_lines coded.text t.now coded.encoding))) from out.old }
+{
+    let read = *t;
+    let written = write_texts::add_lines(coded.text, read, coded.encoding, write_parts::begin(from), out);
+    if written.given == 0 && written.full {
+        return Err(Refusal::NoRoom.at(0));
+    }
+    Ok(written.given)
+}
+
+// What is said of any bytes, in a lent buffer: how many bytes the text has, or the refusal and its line. What is read is held but once.
+pub fn say(wanted: Wanted, bytes: &[u8], out: &mut [u8]) -> Result<usize, Refused>
     ensures { (result, out.new) ≡ saying (reply_to wanted bytes.now) out.old }
 {
-    let plan = plans::plan_of(wanted);
-    let form = plan.0;
-    let way = plan.1;
-    let text = plan.2;
-    let mut read = read_answers::blank_listing();
-    let said = read_lent(form, bytes, &mut read);
-    let width = plans::width_for(text, read.head.width);
-    read.head.width = width;
-    let t = read;
-    let e = encode_by(way, t);
-    let verdict = verdict_on(text, said, t, e);
-    match verdict {
-        Verdict::Refused(r, line) => Said::Refused(r, line),
-        Verdict::Accepted => {
-            if is_longer(text, t, e, out.len()) {
-                return Said::Refused(rules::Refusal::NoRoom, 0);
-            }
-            let written = write_texts::add_lines(text, t, e, write_parts::begin(0), out);
-            Said::Text(written.given)
-        }
-    }
+    let mut t = read_answers::blank_listing();
+    let coded = code_lent(wanted, bytes, &mut t)?;
+    say_whole(coded, &t, out)
 }
 
-// The whole lines of the text that fit, from byte `from` on; none where there is no more, and 10 where the next does not fit.
-pub fn say_from(ready: Ready, from: usize, out: &mut [u8]) -> Said
+// The whole lines of what is ready that fit, from byte `from` on; none where there is no more, and 10 where the next does not fit.
+pub fn say_from(ready: Result<Ready, Refused>, from: usize, out: &mut [u8]) -> Result<usize, Refused>
     ensures { (result, out.new) ≡ saying_part (reply_of ready) from out.old }
 {
-    let verdict = ready.verdict;
-    match verdict {
-        Verdict::Refused(r, line) => Said::Refused(r, line),
-        Verdict::Accepted => {
-            let written = add_text(ready, write_parts::begin(from), out);
-            if written.given == 0 {
-                if written.full {
-                    return Said::Refused(rules::Refusal::NoRoom, 0);
-                }
-            }
-            Said::Text(written.given)
-        }
-    }
+    let r = ready?;
+    let coded = Coded {
+        text: r.text,
+        encoding: r.encoding,
+    };
+    say_piece(coded, &r.listing, from, out)
 }
 
-// A part of what is said of any bytes; the steps are those of `say`, for the same reason.
-pub fn say_part(wanted: Wanted, bytes: &[u8], from: usize, out: &mut [u8]) -> Said
+// A part of what is said of any bytes.
+pub fn say_part(wanted: Wanted, bytes: &[u8], from: usize, out: &mut [u8]) -> Result<usize, Refused>
     ensures { (result, out.new) ≡ saying_part (reply_to wanted bytes.now) from out.old }
 {
-    let plan = plans::plan_of(wanted);
-    let form = plan.0;
-    let way = plan.1;
-    let text = plan.2;
-    let mut read = read_answers::blank_listing();
-    let said = read_lent(form, bytes, &mut read);
-    let width = plans::width_for(text, read.head.width);
-    read.head.width = width;
-    let t = read;
-    let e = encode_by(way, t);
-    let verdict = verdict_on(text, said, t, e);
-    match verdict {
-        Verdict::Refused(r, line) => Said::Refused(r, line),
-        Verdict::Accepted => {
-            let written = write_texts::add_lines(text, t, e, write_parts::begin(from), out);
-            if written.given == 0 {
-                if written.full {
-                    return Said::Refused(rules::Refusal::NoRoom, 0);
-                }
-            }
-            Said::Text(written.given)
-        }
-    }
+    let mut t = read_answers::blank_listing();
+    let coded = code_lent(wanted, bytes, &mut t)?;
+    say_piece(coded, &t, from, out)
 }

@@ -35,21 +35,32 @@ pub enum Way {
 
 // How what is wanted is come by.
 #[derive(Clone, Copy)]
-pub struct Plan(pub Form, pub Way, pub Text);
+pub struct Plan {
+    pub form: Form,
+    pub way: Way,
+    pub text: Text,
+}
+
+// A plan by its three parts.
+fn plan(form: Form, way: Way, text: Text) -> Plan
+    ensures { result ≡ record { form = form; way = way; text = text } }
+{
+    Plan { form, way, text }
+}
 
 // One line for each.
 pub fn plan_of(wanted: Wanted) -> Plan
     ensures { result ≡ plan_of wanted }
 {
     match wanted {
-        Wanted::Report => Plan(Form::Listing, Way::Built, Text::Report),
-        Wanted::Cover => Plan(Form::Listing, Way::Built, Text::Cover),
-        Wanted::Widths => Plan(Form::Listing, Way::Built, Text::Widths),
-        Wanted::Least => Plan(Form::Small, Way::Least, Text::Report),
-        Wanted::LeastCover => Plan(Form::Small, Way::Least, Text::Cover),
-        Wanted::KissReport => Plan(Form::Kiss, Way::Built, Text::Report),
-        Wanted::KissCover => Plan(Form::Kiss, Way::Built, Text::Cover),
-        Wanted::KissListing => Plan(Form::Kiss, Way::Uncoded, Text::Listing),
+        Wanted::Report => plan(Form::Listing, Way::Built, Text::Report),
+        Wanted::Cover => plan(Form::Listing, Way::Built, Text::Cover),
+        Wanted::Widths => plan(Form::Listing, Way::Built, Text::Widths),
+        Wanted::Least => plan(Form::Small, Way::Least, Text::Report),
+        Wanted::LeastCover => plan(Form::Small, Way::Least, Text::Cover),
+        Wanted::KissReport => plan(Form::Kiss, Way::Built, Text::Report),
+        Wanted::KissCover => plan(Form::Kiss, Way::Built, Text::Cover),
+        Wanted::KissListing => plan(Form::Kiss, Way::Uncoded, Text::Listing),
     }
 }
 
@@ -57,22 +68,14 @@ pub fn plan_of(wanted: Wanted) -> Plan
 pub fn is_kiss(form: Form) -> bool
     ensures { result ≡ is_kiss form }
 {
-    match form {
-        Form::Listing => false,
-        Form::Small => false,
-        Form::Kiss => true,
-    }
+    matches!(form, Form::Kiss)
 }
 
 // Whether a form is that of a small machine.
 pub fn is_small(form: Form) -> bool
     ensures { result ≡ is_small form }
 {
-    match form {
-        Form::Listing => false,
-        Form::Small => true,
-        Form::Kiss => false,
-    }
+    matches!(form, Form::Small)
 }
 
 // The width that a listing is coded with: what each width buys is seen in the widest code, whatever the listing's own.

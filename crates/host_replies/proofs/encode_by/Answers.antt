@@ -2,6 +2,7 @@
 use mathlib.Core.Path.{sym, ap, ◌∙◌}
 use Rattle.host_replies.specs.Plans.{encoded_by}
 use Rattle.host_replies.specs.declared.plans.Way.{Way}
+use Rattle.std.specs.Prelude.{Ok}
 use Rattle.host_replies.proofs.encode_by.Goals as goal
 
 pub returns-in-Built : goal.returns-in-Built
@@ -14,4 +15,4 @@ returns-in-Least c = c.encode_least.ensures ∙ sym (ap (λ (w : Way). encoded_b
 
 pub returns-in-Uncoded : goal.returns-in-Uncoded
 unfolding encoded_by
-returns-in-Uncoded c = c.no_code.ensures ∙ sym (ap (λ (w : Way). encoded_by w c.args.t) c.in-Uncoded.is)
+returns-in-Uncoded c = ap Ok c.no_code.ensures ∙ sym (ap (λ (w : Way). encoded_by w c.args.t) c.in-Uncoded.is)
