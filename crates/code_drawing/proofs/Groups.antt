@@ -5,11 +5,10 @@ use mathlib.Core.List.{List, [], ◌∷◌, ◌++◌}
 use Prim.Native.Nat.{ℕ, ◌+◌, ◌*◌, ◌≤◌, ◌<◌, min}
 use native.Mathlib.Omega.{arith}
 use lib.Dec.{leb, ltb}
-use lib.ListN.{length, get_or, take, drop, length-append}
+use lib.ListN.{length, get_or, drop, length-append}
 use Rattle.sets.specs.Sets.{size, everyone}
-use Rattle.rules.specs.Listing.{no_row}
 use Rattle.rules.specs.declared.Row.{Row}
-use Rattle.code_fair.proofs.Tables.{entry, no-entry}
+use Rattle.std.proofs.lemmas.List.{drop_more, drop_all}
 use Rattle.families.specs.Families.{without}
 use Rattle.code_drawing.specs.Drawing.{family, stands_in, with_group, with_groups}
 
@@ -39,15 +38,14 @@ module _ (n : ℕ) (fs : List ℕ) (g : ℕ) where
       go true = let e = length-append fs (family g 0 (without (everyone (min n 64)) g)) in (omega arith, omega arith)
       go false = (omega arith, omega arith)
 
-module _ (table : List Row) (n rows r : ℕ) (fs : List ℕ) where
-  pub rows_more : r < rows → r < length table
-      → with_groups n (with_group n fs (get_or table r no_row).group) (drop (r + 1) (take rows table)) ≡ with_groups n fs (drop r (take rows table))
+module _ (rows : List Row) (n r : ℕ) (fs : List ℕ) where
+  pub rows_more : (d : Row) → r < length rows → with_groups n (with_group n fs (get_or rows r d).group) (drop (r + 1) rows) ≡ with_groups n fs (drop r rows)
   unfolding with_groups
-  rows_more h q = ap (with_groups n fs) (sym (entry table rows r no_row h q))
+  rows_more d h = ap (with_groups n fs) (sym (drop_more rows r d h))
 
-  pub rows_none : min rows (length table) ≤ r → fs ≡ with_groups n fs (drop r (take rows table))
+  pub rows_none : length rows ≤ r → fs ≡ with_groups n fs (drop r rows)
   unfolding with_groups
-  rows_none h = ap (with_groups n fs) (sym (no-entry table rows r h))
+  rows_none h = ap (with_groups n fs) (sym (drop_all r rows h))
 
 pub rows-length : (n : ℕ) (rs : List Row) (fs : List ℕ) → (length fs ≤ length (with_groups n fs rs)) × (length (with_groups n fs rs) ≤ length fs + 3 * length rs)
 unfolding with_groups

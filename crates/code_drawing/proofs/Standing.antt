@@ -1,32 +1,25 @@
--- Whether a group stands among families, as a loop over them meets them.
-use mathlib.Core.Path.{◌≡◌, refl, sym, ap, ◌∙◌}
-use mathlib.Core.Bool.{Bool, true, false, ◌||◌}
-use mathlib.Core.List.{List, [], ◌∷◌}
-use Prim.Native.Nat.{ℕ, ◌+◌, ◌≤◌, ◌<◌}
-use native.Mathlib.Omega.{arith}
-use lib.Dec.{eqb}
-use lib.ListN.{length, get_or, drop, length-drop}
-use borrow.Author.Tests.{eq-eqb, ne_eqb}
-use Rattle.families.proofs.Words.{three}
+-- Whether a group stands among families, read as chunks of three words.
+use Rattle.std.proofs.Common.{◌≡◌, ℕ, zero, suc, ◌*◌, ◌+◌, ◌<◌, ◌≤◌, Bool, true, false, ◌||◌, eqb, List, [], ◌∷◌, length, get_or, refl, sym, ap₂, ◌∙◌, arith, eq-eqb, ne_eqb, eqb-true}
+use borrow.Author.Tests.{eqb-false}
+use Rattle.std.specs.List.{list_any}
+use Rattle.std.specs.Simd.{first_chunks}
 use Rattle.code_drawing.specs.Drawing.{stands_in}
 
-stands-short : (g : ℕ) (fs : List ℕ) → length fs < 3 → stands_in g fs ≡ false
+-- the members in common of a family are g
+abbrev pub first_is : ℕ → List ℕ → Bool
+first_is g w = eqb (get_or w 0 0) g
+
+pub stands-any : (g c : ℕ) (fs : List ℕ) → 3 * c ≤ length fs → length fs < 3 * c + 3 → list_any (first_is g) (first_chunks 3 c fs) ≡ stands_in g fs
 unfolding stands_in
-stands-short g [] h = refl
-stands-short g (a ∷ []) h = refl
-stands-short g (a ∷ (b ∷ [])) h = refl
-stands-short g (a ∷ (b ∷ (c ∷ fs))) h = absurd (omega arith)
-
-module _ (g : ℕ) (fs : List ℕ) (i : ℕ) where
-  stands-step : i + 3 ≤ length fs → stands_in g (drop i fs) ≡ (eqb g (get_or fs i 0) || stands_in g (drop (i + 3) fs))
-  unfolding stands_in
-  stands-step h = ap (stands_in g) (three fs i h)
-
-  pub stands_here : i + 3 ≤ length fs → get_or fs i 0 ≡ g → stands_in g (drop i fs) ≡ true
-  stands_here h e = stands-step h ∙ ap (λ (t : Bool). t || stands_in g (drop (i + 3) fs)) (eq-eqb g (get_or fs i 0) (sym e))
-
-  pub stands-later : i + 3 ≤ length fs → (get_or fs i 0 ≡ g → ⊥) → stands_in g (drop i fs) ≡ stands_in g (drop (i + 3) fs)
-  stands-later h o = stands-step h ∙ ap (λ (t : Bool). t || stands_in g (drop (i + 3) fs)) (ne_eqb g (get_or fs i 0) (λ e. o (sym e)))
-
-  pub stands-none : length fs < i + 3 → stands_in g (drop i fs) ≡ false
-  stands-none h = stands-short g (drop i fs) (omega (arith, length-drop i fs))
+stands-any g zero [] h l = refl
+stands-any g zero (a ∷ []) h l = refl
+stands-any g zero (a ∷ (b ∷ [])) h l = refl
+stands-any g zero (a ∷ (b ∷ (o ∷ fs))) h l = absurd (omega arith)
+stands-any g (suc c) [] h l = absurd (omega arith)
+stands-any g (suc c) (a ∷ []) h l = absurd (omega arith)
+stands-any g (suc c) (a ∷ (b ∷ [])) h l = absurd (omega arith)
+stands-any g (suc c) (a ∷ (b ∷ (o ∷ fs))) h l = ap₂ (λ (x y : Bool). x || y) (swap (eqb a g) refl) (stands-any g c fs (omega arith) (omega arith))
+  where
+    swap : (b : Bool) → eqb a g ≡ b → eqb a g ≡ eqb g a
+    swap true e = e ∙ sym (eq-eqb g a (sym (eqb-true a g e)))
+    swap false e = e ∙ sym (ne_eqb g a (λ z. eqb-false a g e (sym z)))

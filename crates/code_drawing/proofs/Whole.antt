@@ -22,7 +22,7 @@ pairs-length n i zero = refl
 pairs-length n i (suc k) = omega (arith, pairs-length n (suc i) k)
 
 module _ (t : Listing) (long : length t.table ≡ most_rows) where
-  few-rows : length (rows_of t) ≤ most_rows
+  pub few-rows : length (rows_of t) ≤ most_rows
   few-rows = omega (arith, length-take t.rows t.table)
 
   pub few-groups : length (group_families t) ≤ 3 * most_rows
@@ -34,6 +34,9 @@ module _ (t : Listing) (long : length t.table ≡ most_rows) where
   few-first =
       let m : ℕ = min t.head.states most_states in
       omega (arith, few-rows, (rows-length t.head.states (rows_of t) (pairs_of m)).1, pairs-length m 0 (m - 1))
+
+pub few-asked : (t : Listing) → length t.asked ≡ most_dichotomies → length (dichotomies_of t) ≤ most_dichotomies
+few-asked t wide = omega (arith, length-take t.dichotomies t.asked)
 
 -- ---- behind others
 

@@ -1,30 +1,28 @@
 -- The words of pairs and of dichotomies, as the loops that draw them meet them: one family, and those behind it.
 use mathlib.Core.Path.{◌≡◌, sym, ap, ap₂, ◌∙◌}
 use mathlib.Core.List.{List, ◌∷◌, ◌++◌, append_assoc, append-nil}
-use Prim.Native.Nat.{ℕ, suc, ◌+◌, ◌-◌, ◌≤◌, ◌<◌, min}
+use Prim.Native.Nat.{ℕ, suc, ◌+◌, ◌-◌, ◌≤◌, ◌<◌}
 use native.Mathlib.Omega.{arith}
 use lib.Bits.{bit_or}
-use lib.ListN.{length, get_or, take, drop}
+use lib.ListN.{length, get_or, drop}
 use Rattle.sets.specs.Sets.{only, everyone}
-use Rattle.rules.specs.Listing.{no_requirement}
 use Rattle.rules.specs.declared.Requirement.{Requirement}
-use Rattle.code_fair.proofs.Tables.{entry, no-entry}
+use Rattle.std.proofs.lemmas.List.{drop_more, drop_all}
 use Rattle.families.specs.Families.{without}
 use Rattle.code_drawing.specs.Drawing.{family, dichotomy_words, pair_words}
 
-module _ (asked : List Requirement) (n d : ℕ) (front : List ℕ) where
-  pub dichotomy-more : d < n → d < length asked → let x = get_or asked d no_requirement in
-      (front ++ family (bit_or x.first x.second) x.second 0) ++ dichotomy_words (drop (d + 1) (take n asked)) ≡ front ++ dichotomy_words (drop d (take n asked))
+module _ (asked : List Requirement) (d : ℕ) (front : List ℕ) where
+  pub dichotomy-more : (e : Requirement) → d < length asked → let x = get_or asked d e in
+      (front ++ family (bit_or x.first x.second) x.second 0) ++ dichotomy_words (drop (d + 1) asked) ≡ front ++ dichotomy_words (drop d asked)
   unfolding dichotomy_words
-  dichotomy-more h q =
-      let x = get_or asked d no_requirement in
-      let rest = drop (d + 1) (take n asked) in
-      append_assoc front (family (bit_or x.first x.second) x.second 0) (dichotomy_words rest)
-      ∙ ap (λ (ds : List Requirement). front ++ dichotomy_words ds) (sym (entry asked n d no_requirement h q))
+  dichotomy-more e q =
+      let x = get_or asked d e in
+      append_assoc front (family (bit_or x.first x.second) x.second 0) (dichotomy_words (drop (d + 1) asked))
+      ∙ ap (λ (ds : List Requirement). front ++ dichotomy_words ds) (sym (drop_more asked d e q))
 
-  pub dichotomy-none : min n (length asked) ≤ d → front ≡ front ++ dichotomy_words (drop d (take n asked))
+  pub dichotomy-none : length asked ≤ d → front ≡ front ++ dichotomy_words (drop d asked)
   unfolding dichotomy_words
-  dichotomy-none h = sym (ap (λ (ds : List Requirement). front ++ dichotomy_words ds) (no-entry asked n d h) ∙ append-nil front)
+  dichotomy-none h = sym (ap (λ (ds : List Requirement). front ++ dichotomy_words ds) (drop_all d asked h) ∙ append-nil front)
 
 module _ (n i : ℕ) (front : List ℕ) where
   pub pair-more : i + 1 < n → {a o : ℕ} → a ≡ only i → o ≡ without (everyone n) (everyone (i + 1))

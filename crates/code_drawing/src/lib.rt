@@ -1,7 +1,7 @@
 // The requirements of a listing, drawn up as families: the pairs, the groups, the dichotomies, three numbers for each family.
 #![tactic(auto)]
 
-ghost use Rattle.std.specs.Prelude.{◌≡◌, ◌&&◌, [], ◌++◌, ◌+◌, ◌*◌, ◌≤◌, leb, ltb, length, take};
+ghost use Rattle.std.specs.Prelude.{◌≡◌, ◌&&◌, [], ◌++◌, ◌+◌, ◌*◌, ◌≤◌, min, leb, ltb, length, take};
 ghost use Rattle.sets.specs.Sets.{size};
 ghost use Rattle.rules.specs.Limits.{most_states, most_rows, most_dichotomies};
 ghost use Rattle.code_drawing.specs.Drawing.{stands_in, family, with_group, with_groups, dichotomy_words, pairs_of, families_of, first_families, all_families, Drew};
@@ -17,14 +17,8 @@ pub const ALL_WORDS: usize = 3 * (rules::MOST_STATES + rules::MOST_ROWS + rules:
 fn stands(fs: &[u64], g: u64) -> bool
     ensures { result ≡ stands_in g fs.now }
 {
-    let mut i: usize = 0;
-    while 3 <= fs.len() - i {
-        if fs[i] == g {
-            return true;
-        }
-        i += 3;
-    }
-    false
+    let (families, _) = fs.as_chunks::<3>();
+    families.iter().any(|family| family[0] == g)
 }
 
 // One family more, behind the first `at` words.
@@ -43,10 +37,7 @@ fn is_asking(n: usize, g: u64) -> bool
     ensures { result ≡ (leb 2 (size g) && ltb (size g) n) }
 {
     let members = sets::size_of(g) as usize;
-    if members < 2 {
-        return false;
-    }
-    members < n
+    2 <= members && members < n
 }
 
 // The family of a group, if it asks and does not stand there yet. A group that asks nothing asks nothing the second time either.
@@ -63,45 +54,26 @@ fn draw_group(fs: &mut [u64], at: usize, n: usize, g: u64) -> usize
     put_family(fs, at, g, 0, families::without_of(sets::everyone_of(n), g))
 }
 
-// The families of the groups of a table's first rows. The table comes without its listing: each function that reads a value in a loop holds a copy of it.
-fn draw_rows(
-    n: usize,
-    count: usize,
-    table: [Row; rules::MOST_ROWS],
-    fs: &mut [u64],
-    at: usize,
-) -> usize
-    requires { at + 3 * most_rows ≤ length fs.old }
-    ensures { Drew fs.old (with_groups n (take at fs.old) (take count table)) result fs.new }
+// The families of the groups of some rows.
+fn draw_rows(n: usize, rows: &[Row], fs: &mut [u64], at: usize) -> usize
+    requires { at + 3 * length rows.now ≤ length fs.old }
+    ensures { Drew fs.old (with_groups n (take at fs.old) rows.now) result fs.new }
 {
-    let rows = sets::least(count, rules::MOST_ROWS);
-    let mut r: usize = 0;
     let mut k = at;
-    while r < rows {
-        let row = table[r];
+    for row in rows {
         k = draw_group(fs, k, n, row.group);
-        r += 1;
     }
     k
 }
 
-// The families of the first dichotomies of a table.
-fn draw_dichotomies(
-    count: usize,
-    table: [Requirement; rules::MOST_DICHOTOMIES],
-    fs: &mut [u64],
-    at: usize,
-) -> usize
-    requires { at + 3 * most_dichotomies ≤ length fs.old }
-    ensures { Drew fs.old (take at fs.old ++ dichotomy_words (take count table)) result fs.new }
+// The families of some dichotomies.
+fn draw_dichotomies(asked: &[Requirement], fs: &mut [u64], at: usize) -> usize
+    requires { at + 3 * length asked.now ≤ length fs.old }
+    ensures { Drew fs.old (take at fs.old ++ dichotomy_words asked.now) result fs.new }
 {
-    let n = sets::least(count, rules::MOST_DICHOTOMIES);
-    let mut d: usize = 0;
     let mut k = at;
-    while d < n {
-        let asked = table[d];
-        k = put_family(fs, k, asked.first | asked.second, asked.second, 0);
-        d += 1;
+    for d in asked {
+        k = put_family(fs, k, d.first | d.second, d.second, 0);
     }
     k
 }
@@ -112,54 +84,53 @@ fn draw_pairs(n: usize, fs: &mut [u64]) -> usize
     ensures { Drew fs.old (pairs_of n) result fs.new }
 {
     let all = sets::everyone_of(n);
-    let mut i: usize = 0;
     let mut k: usize = 0;
-    while i + 1 < n {
-        k = put_family(
-            fs,
-            k,
-            1 << i,
-            0,
-            families::without_of(all, sets::everyone_of(i + 1)),
-        );
-        i += 1;
+    for i in 0..n.saturating_sub(1) {
+        let behind = families::without_of(all, sets::everyone_of(i + 1));
+        k = put_family(fs, k, 1 << i, 0, behind);
     }
     k
 }
 
-// The families of a listing's groups and dichotomies, of any Listing value: where it counts more rows than there are places for, those that
-// have places. The answer is how many words they take.
+// The first entries of a table, as many as are counted: where more are counted than there are places for, those that have places.
+fn counted<T>(table: &[T], count: usize) -> &[T]
+    ensures { result.now ≡ take count table.now }
+{
+    &table[..count.min(table.len())]
+}
+
+// The families of a listing's groups and dichotomies, of any Listing value. The answer is how many words they take.
 pub fn draw(t: Listing, fs: &mut [u64; WORDS]) -> usize
     ensures { Drew fs.old (families_of t) result fs.new }
 {
-    let table = t.table;
-    let asked = t.asked;
-    let k = draw_rows(t.head.states, t.rows, table, fs, 0);
-    draw_dichotomies(t.dichotomies, asked, fs, k)
+    let rows = counted(&t.table, t.rows);
+    let asked = counted(&t.asked, t.dichotomies);
+    let k = draw_rows(t.head.states, rows, fs, 0);
+    draw_dichotomies(asked, fs, k)
 }
 
-// The families of a listing's pairs and groups, where there is room for them.
-fn draw_before(t: Listing, fs: &mut [u64]) -> usize
-    requires { 3 * most_states + 3 * most_rows ≤ length fs.old }
-    ensures { Drew fs.old (first_families t) result fs.new }
+// The families of the pairs of n states, of more than 64 states the first 64, and of the groups of some rows, where there is room for them.
+fn draw_before(n: usize, rows: &[Row], fs: &mut [u64]) -> usize
+    requires { (length rows.now ≤ most_rows) × (3 * most_states + 3 * most_rows ≤ length fs.old) }
+    ensures { Drew fs.old (with_groups n (pairs_of (min n most_states)) rows.now) result fs.new }
 {
-    let table = t.table;
-    let k = draw_pairs(sets::least(t.head.states, rules::MOST_STATES), fs);
-    draw_rows(t.head.states, t.rows, table, fs, k)
+    let k = draw_pairs(n.min(rules::MOST_STATES), fs);
+    draw_rows(n, rows, fs, k)
 }
 
 // The families of a listing's pairs and groups.
 pub fn draw_first(t: Listing, fs: &mut [u64; ALL_WORDS]) -> usize
     ensures { Drew fs.old (first_families t) result fs.new }
 {
-    draw_before(t, fs)
+    draw_before(t.head.states, counted(&t.table, t.rows), fs)
 }
 
 // The families of all that a listing asks.
 pub fn draw_all(t: Listing, fs: &mut [u64; ALL_WORDS]) -> usize
     ensures { Drew fs.old (all_families t) result fs.new }
 {
-    let asked = t.asked;
-    let k = draw_before(t, fs);
-    draw_dichotomies(t.dichotomies, asked, fs, k)
+    let rows = counted(&t.table, t.rows);
+    let asked = counted(&t.asked, t.dichotomies);
+    let k = draw_before(t.head.states, rows, fs);
+    draw_dichotomies(asked, fs, k)
 }

@@ -1,4 +1,3 @@
 pub mod Limits
-pub mod Tables
 pub mod Twin
 pub mod FairListings

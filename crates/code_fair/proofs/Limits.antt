@@ -16,7 +16,8 @@ use Rattle.rules.specs.Listing.{no_row, no_requirement, rows_of, dichotomies_of}
 use Rattle.rules.specs.declared.Requirement.{Requirement}
 use Rattle.rules.specs.declared.Listing.{Listing}
 use Rattle.rules.proofs.SoundLines.{SoundBlocks}
-use Rattle.code_fair.specs.Fair.{each, group_within, blocks_within, group_under, blocks_under, within_limits, fair}
+use Rattle.std.specs.List.{list_all}
+use Rattle.code_fair.specs.Fair.{group_within, blocks_within, group_under, blocks_under, within_limits, fair}
 
 -- ---- the tests, one after the other
 
@@ -51,8 +52,8 @@ group-under n = λ i r. below r.group (2 ^ n) (pow_pos n) i
 pub blocks-under : (n : ℕ) → blocks_under (everyone n) ≡ blocks_within n
 blocks-under n = λ i d. below d.first (2 ^ n) (pow_pos n) i && (below d.second (2 ^ n) (pow_pos n) i && eqb (bit_and d.first d.second) 0)
 
-pub fair-each : (t : Listing) {a b : Bool} → within_limits t ≡ a → each (group_within t.head.states) (rows_of t) ≡ b
-    → fair t ≡ (a && (b && each (blocks_within t.head.states) (dichotomies_of t)))
+pub fair-each : (t : Listing) {a b : Bool} → within_limits t ≡ a → list_all (group_within t.head.states) (rows_of t) ≡ b
+    → fair t ≡ (a && (b && list_all (blocks_within t.head.states) (dichotomies_of t)))
 unfolding fair
 fair-each t p q = rw (p, q)
 
@@ -85,16 +86,14 @@ within t e =
 -- ---- rows and dichotomies
 
 module _ {A : Type 0} (p : A → Bool) (d : A) where
-  each_at : (l : List A) → each p l ≡ true → (k : ℕ) → k < length l → p (get_or l k d) ≡ true
-  unfolding each
+  each_at : (l : List A) → list_all p l ≡ true → (k : ℕ) → k < length l → p (get_or l k d) ≡ true
   each_at [] e k h = absurd (omega arith)
-  each_at (x ∷ xs) e zero h = and_first (p x) (each p xs) e
-  each_at (x ∷ xs) e (suc k) h = each_at xs (and_second (p x) (each p xs) e) k (omega arith)
+  each_at (x ∷ xs) e zero h = and_first (p x) (list_all p xs) e
+  each_at (x ∷ xs) e (suc k) h = each_at xs (and_second (p x) (list_all p xs) e) k (omega arith)
 
-  at_each : (l : List A) → ((k : ℕ) → k < length l → p (get_or l k d) ≡ true) → each p l ≡ true
-  unfolding each
+  at_each : (l : List A) → ((k : ℕ) → k < length l → p (get_or l k d) ≡ true) → list_all p l ≡ true
   at_each [] h = refl
-  at_each (x ∷ xs) h = and_both (p x) (each p xs) (h 0 (omega arith)) (at_each xs (λ k q. h (suc k) (omega arith)))
+  at_each (x ∷ xs) h = and_both (p x) (list_all p xs) (h 0 (omega arith)) (at_each xs (λ k q. h (suc k) (omega arith)))
 
 blocks-grant : (n : ℕ) (d : Requirement) → blocks_within n d ≡ true → SoundBlocks n d
 blocks-grant n d e =
@@ -126,8 +125,8 @@ pub fair-grants : (t : Listing) → fair t ≡ true → Fair t
 unfolding fair
 fair-grants t e =
     let n : ℕ = t.head.states in
-    let gs = each (group_within n) (rows_of t) in
-    let ds = each (blocks_within n) (dichotomies_of t) in
+    let gs = list_all (group_within n) (rows_of t) in
+    let ds = list_all (blocks_within n) (dichotomies_of t) in
     let e₁ : (gs && ds) ≡ true = and_second (within_limits t) (gs && ds) e in
     record {
       limits = within t (and_first (within_limits t) (gs && ds) e);

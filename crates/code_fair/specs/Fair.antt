@@ -1,16 +1,12 @@
 -- The listings that the encoder takes: those within the limits of 01, as every listing that a reader accepts is.
-use Rattle.std.specs.Prelude.{Bool, true, ◌&&◌, List, [], ◌∷◌, ℕ, ◌^◌, leb, ltb, eqb}
+use Rattle.std.specs.Prelude.{Bool, ◌&&◌, ℕ, ◌^◌, leb, ltb, eqb}
+use Rattle.std.specs.List.{list_all}
 use Rattle.std.specs.Int.Bits.{bit_and}
 use Rattle.rules.specs.Limits.{most_states, most_bits, most_rows, most_dichotomies}
 use Rattle.rules.specs.Listing.{rows_of, dichotomies_of}
 use Rattle.rules.specs.declared.Row.{Row}
 use Rattle.rules.specs.declared.Requirement.{Requirement}
 use Rattle.rules.specs.declared.Listing.{Listing}
-
--- p holds of each entry of a list
-unfoldable pub each : {A : Type 0} → (A → Bool) → List A → Bool
-each p [] = true
-each p (x ∷ xs) = p x && each p xs
 
 -- a group is a set of the n states
 abbrev pub group_within : ℕ → Row → Bool
@@ -34,5 +30,5 @@ within_limits t =
     && (leb t.head.width most_bits && (leb t.rows most_rows && leb t.dichotomies most_dichotomies)))
 
 unfoldable pub fair : Listing → Bool
-unfolding within_limits each
-fair t = within_limits t && (each (group_within t.head.states) (rows_of t) && each (blocks_within t.head.states) (dichotomies_of t))
+unfolding within_limits
+fair t = within_limits t && (list_all (group_within t.head.states) (rows_of t) && list_all (blocks_within t.head.states) (dichotomies_of t))

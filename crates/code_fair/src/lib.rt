@@ -16,10 +16,7 @@ pub fn is_fair(t: Listing) -> bool
         return false;
     }
     let all = sets::everyone_of(t.head.states);
-    let table = t.table;
-    if !checks::groups_within(all, t.rows, table) {
-        return false;
-    }
-    let asked = t.asked;
-    checks::dichotomies_within(all, t.dichotomies, asked)
+    let rows = &t.table[..t.rows];
+    let asked = &t.asked[..t.dichotomies];
+    checks::groups_within(all, rows) && checks::dichotomies_within(all, asked)
 }

@@ -1,18 +1,16 @@
--- `code_drawing::stands` meets its contract: the families still to come decide as all of them do.
-use Rattle.code_drawing.proofs.Standing.{stands_here, stands-later, stands-none}
-use mathlib.Core.Path.{sym, ◌∙◌}
-use native.Mathlib.Omega.{arith}
-use borrow.Author.Rules.{rules}
+-- `code_drawing::stands` meets its contract.
+use Rattle.std.proofs.Common.{◌/◌, length, ap, ◌∙◌, rules, arith}
+use Rattle.std.proofs.lemmas.Iterator.{YieldsList-from_slice}
+use Rattle.std.proofs.lemmas.Iterator.Search.{any_from_yields_List}
+use Rattle.std.specs.List.{list_any}
+use borrow.Author.Tests.{tests}
+use Rattle.code_drawing.proofs.Standing.{first_is, stands-any}
 use Rattle.code_drawing.proofs.stands.Goals as goal
-
-pub returns-then-fs-i : goal.returns-then-fs-i
-returns-then-fs-i c =
-    sym (stands_here c.args.g c.args.fs.now c.loop-i.i (omega arith) c.if-fs-i.true) ∙ c.loop-i.invariant.1
-
-pub loop-i-preserved : goal.loop-i-preserved
-loop-i-preserved c =
-    (search rules, sym (stands-later c.args.g c.args.fs.now c.loop-i.i (omega arith) c.if-fs-i.false) ∙ c.loop-i.invariant.1)
 
 pub returns : goal.returns
 returns c =
-    sym (stands-none c.args.g c.args.fs.now c.loop-i.i (omega arith)) ∙ c.loop-i.invariant.1
+    let fs = c.args.fs.now in
+    let w = c.as_chunks.ensures in
+    any_from_yields_List (first_is c.args.g) _ _ _ c.any.ensures.ran (YieldsList-from_slice _ c.iter.ensures.rest) (λ x b q k. search (rules, tests))
+    ∙ ap (list_any (first_is c.args.g)) w.front
+    ∙ stands-any c.args.g (length fs / 3) fs (omega arith) (omega arith)
