@@ -6,6 +6,7 @@ use Prim.Native.Nat.{ℕ, zero, suc, ◌+◌, ◌*◌, ◌-◌, ◌%◌, ◌^◌
 use native.Mathlib.Nat.{pow-suc}
 use native.Mathlib.Numerals.{add-one}
 use native.Mathlib.Omega.{arith}
+use mir.Val.{bool_byte}
 use lib.Bits.{bit_and, bit_xor, and_mask, and_lt, xor_lt}
 use lib.Count.{count_trailing_zeros}
 use lib.Dec.{eqb, leb, ltb}
@@ -116,13 +117,13 @@ module _ (p : Marks) (code : ℕ) (ho : p.ones < 2 ^ 64) (hd : p.dashes < 2 ^ 64
       ∙ none-low 64 unlike
       ∙ every-same 64 _ _ (λ s l. rw (has-and (bit_xor p.ones code) ((2 ^ 64 - 1) - p.dashes) s, has-not 64 p.dashes s hd l, has-xor p.ones code s) (one_way (has p.dashes s) (has p.ones s) (has code s) (has-lt p.dashes s) (has-lt p.ones s) (has-lt code s)))
 
-  pub takes_one : unlike ≡ 0 → 1 ≡ takes_digit p code
+  pub takes-is : {d : ℕ} → d ≡ bool_byte (eqb unlike 0) → d ≡ takes_digit p code
   unfolding takes_digit
-  takes_one e = sym (ap digit (sym taken-mask ∙ eq-eqb unlike 0 e))
-
-  pub takes_none : (unlike ≡ 0 → ⊥) → 0 ≡ takes_digit p code
-  unfolding takes_digit
-  takes_none o = sym (ap digit (sym taken-mask ∙ ne_eqb unlike 0 o))
+  takes-is e = e ∙ as_digit (eqb unlike 0) ∙ ap digit taken-mask
+    where
+      as_digit : (b : Bool) → bool_byte b ≡ digit b
+      as_digit true = refl
+      as_digit false = refl
 
 -- ---- the states, from the last
 

@@ -1,5 +1,5 @@
 -- The rows of a listing, and the lines of a cover, as numbers, and the tables in which they stand.
-use Rattle.std.specs.Prelude.{Bool, ◌&&◌, ◌||◌, cond, List, [], ◌∷◌, map, ℕ, suc, ◌+◌, ◌*◌, eqb, leb, ltb, length, take, drop, get_or, set}
+use Rattle.std.specs.Prelude.{◌&&◌, ◌||◌, cond, List, [], ◌∷◌, map, ℕ, suc, ◌+◌, ◌*◌, eqb, leb, ltb, length, take, drop, get_or, set}
 use Rattle.std.specs.Int.Count.{count_trailing_zeros}
 use Rattle.sets.specs.Sets.{has, every}
 use Rattle.rules.specs.Limits.{most_states}

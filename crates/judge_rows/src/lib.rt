@@ -93,14 +93,12 @@ pub fn put_listing(
 {
     let n = sets::least(t.rows, rules::MOST_ROWS);
     let all = write_rows::row_count(t.head, t.rows);
-    let mut k: usize = 0;
-    while k < all {
+    for k in 0..all {
         let place = sets::least(k, rules::MOST_ROWS - 1);
         let state = write_rows::state_at(n, k);
         let row = write_rows::row_at(n, k, t.table[place], t.said[state]);
         put_firing(fires, k, firing_of(row));
         put_saying(says, k, saying_of(codes, row));
-        k += 1;
     }
 }
 
@@ -119,10 +117,7 @@ fn marks_of(f: &[u8]) -> Marks
 fn takes_digit(p: Marks, code: u64) -> u64
     ensures { result ≡ takes_digit p code }
 {
-    if (p.ones ^ code) & !p.dashes == 0 {
-        return 1;
-    }
-    0
+    u64::from((p.ones ^ code) & !p.dashes == 0)
 }
 
 // The first of so many states whose codes some characters take.
@@ -131,9 +126,7 @@ fn states_taking(p: Marks, codes: [u64; rules::MOST_STATES], states: usize) -> u
     ensures { result ≡ states_taking p (take states codes) }
 {
     let mut set: u64 = 0;
-    let mut s = states;
-    while 0 < s {
-        s -= 1;
+    for s in (0..states).rev() {
         set = set * 2 + takes_digit(p, codes[s]);
     }
     set

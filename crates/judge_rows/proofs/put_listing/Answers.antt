@@ -35,9 +35,9 @@ put_saying-requires c =
 pub loop-k-preserved : goal.loop-k-preserved
 loop-k-preserved c =
     let here = row-given c.args.t (table-long (goal.at.loop-k-preserved c).Start) (said-long (goal.at.loop-k-preserved c).Start) c.least-n.ensures c.row_count-all.ensures c.loop-k.k c.loop-k-test.true c.least-place.ensures c.state_at-state.ensures c.row_at-row.ensures in
-    (omega (arith, c.loop-k-test.true), listing-next c.args.codes c.loop-k.k c.row_at-row.result _ _ c.loop-k.fires c.loop-k.says here c.firing_of.ensures c.saying_of.ensures c.put_firing.ensures c.put_saying.ensures ∙ c.loop-k.invariant.1)
+    listing-next c.args.codes c.loop-k.k c.row_at-row.result _ _ c.loop-k.fires c.loop-k.says here c.firing_of.ensures c.saying_of.ensures c.put_firing.ensures c.put_saying.ensures ∙ c.loop-k.invariant
 
 pub returns : goal.returns
 returns c =
     let none = row-none c.args.t (table-long (goal.at.returns c).Start) (said-long (goal.at.returns c).Start) c.least-n.ensures c.row_count-all.ensures c.loop-k.k (omega (arith, c.loop-k-test.false)) in
-    listing-over c.args.codes c.loop-k.k _ _ none ∙ c.loop-k.invariant.1
+    listing-over c.args.codes c.loop-k.k _ _ none ∙ c.loop-k.invariant

@@ -7,7 +7,4 @@ use Rattle.judge_rows.proofs.states_taking.Given as goal
 
 abbrev pub invariant-loop-s : goal.invariant-loop-s
 invariant-loop-s l =
-    (l.s ≤ l.states) × (l.states ≤ 64) × (length l.codes ≡ 64) × (l.set ≡ states_taking l.p (drop l.s (take l.states l.codes)))
-
-abbrev pub decreases-loop-s : goal.decreases-loop-s
-decreases-loop-s l = l.s
+    (l.states ≤ 64) × (length l.codes ≡ 64) × (l.set ≡ states_taking l.p (drop l.s (take l.states l.codes)))
