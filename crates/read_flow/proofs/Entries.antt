@@ -13,6 +13,7 @@ use Rattle.sets.proofs.Every.{every-at, at_every}
 use Rattle.rules.specs.Text.{bytes, same, fields_of, field_at, numeral_of}
 use Rattle.rules.specs.FlowLines.{entry_of, is_entry, value_of, entry_at, flow_line}
 use Rattle.rules.specs.declared.Refusal.TheVariants.{BadLine}
+use Rattle.read_marks.proofs.Mark.{same-unlike}
 use Rattle.read_flow.specs.Table.{all_entries}
 
 pub same-one : (xs : List ℕ) (a : ℕ) → length xs ≡ 1 → same xs (a ∷ []) ≡ eqb (get_or xs 0 0) a
@@ -100,3 +101,5 @@ module _ (n columns : ℕ) (l : List ℕ) where
       go : (b : Bool) → leb columns 16 ≡ b → columns ≤ 16
       go true q = leb-true columns 16 q
       go false q = absurd (let m = line-over q in let z : ◌≡◌ {A = ℕ} 0 1 = cc in omega arith)
+
+pub ruleset dashes = (same-one, same-unlike)

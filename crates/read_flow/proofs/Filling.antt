@@ -1,7 +1,7 @@
 -- The table while the lines are read: in each column the entries of the lines so far; and what the next line does decides what all of them say.
 use Rattle.std.specs.Prelude.{Result, Ok, Err}
 use mathlib.Core.Path.{◌≡◌, refl, sym, ap, ap₂, subst, ◌∙◌}
-use mathlib.Core.Bool.{true, false, false≢true}
+use mathlib.Core.Bool.{true, false≢true}
 use mathlib.Core.List.{List, [], ◌∷◌, ◌++◌, map}
 use Prim.Native.Nat.{ℕ, zero, suc, ◌+◌, ◌*◌, ◌-◌, ◌≤◌, ◌<◌}
 use native.Mathlib.Numerals.{add-one}
@@ -118,17 +118,17 @@ fill_done n columns all table f = columns-same n (take n all) table 0 columns (�
 
 -- ---- what a line does, by what it says
 
-pub said-stops : (x : FlowStep) {r : Refusal} → said_of x ≡ Said.Refused r → x ≡ flow_stops r
+pub said-stops : (x : FlowStep) {r : Refusal} → said_of x ≡ Err r → x ≡ flow_stops r
 said-stops flow_goes e = absurd (let z : ◌≡◌ {A = ℕ} 0 1 = cc in omega arith)
 said-stops flow_ends e = absurd (let z : ◌≡◌ {A = ℕ} 0 1 = cc in omega arith)
 said-stops (flow_stops q) e = cc
 
-pub said-ends : (x : FlowStep) → said_of x ≡ Said.End → x ≡ flow_ends
+pub said-ends : (x : FlowStep) → said_of x ≡ Ok Said.End → x ≡ flow_ends
 said-ends flow_goes e = absurd (let z : ◌≡◌ {A = ℕ} 0 1 = cc in omega arith)
 said-ends flow_ends e = refl
 said-ends (flow_stops q) e = absurd (let z : ◌≡◌ {A = ℕ} 0 1 = cc in omega arith)
 
-pub said_goes : (x : FlowStep) → said_of x ≡ Said.Line → x ≡ flow_goes
+pub said_goes : (x : FlowStep) → said_of x ≡ Ok Said.Line → x ≡ flow_goes
 said_goes flow_goes e = refl
 said_goes flow_ends e = absurd (let z : ◌≡◌ {A = ℕ} 0 1 = cc in omega arith)
 said_goes (flow_stops q) e = absurd (let z : ◌≡◌ {A = ℕ} 0 1 = cc in omega arith)

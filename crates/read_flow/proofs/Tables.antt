@@ -1,7 +1,7 @@
 -- The table as it is filled line by line, and its columns.
 use mathlib.Core.Path.{◌≡◌, sym, ap}
 use mathlib.Core.Bool.{Bool, true, false, ◌&&◌}
-use mathlib.Core.List.{List, [], ◌∷◌, ◌++◌}
+use mathlib.Core.List.{List, [], ◌∷◌}
 use Prim.Native.Nat.{ℕ, suc, ◌+◌, ◌*◌, ◌-◌, ◌≤◌, ◌<◌}
 use native.Mathlib.Numerals.{add-one}
 use native.Mathlib.Omega.{arith}
@@ -102,3 +102,5 @@ module _ (n : ℕ) (l : List ℕ) (s c k : ℕ) (table : List ℕ) where
   store-end h =
       let none : k - c ≡ 0 = omega arith in
       rw none
+
+pub ruleset stable_in = (stable-past, stable-at)

@@ -6,7 +6,7 @@ use Rattle.rules.specs.FlowLines.{FlowStep, flow_goes, flow_ends, flow_stops}
 use Rattle.rules.specs.Listing.{refused, nothing, flow_read, flow_lines}
 use Rattle.rules.specs.declared.Head.{Head}
 use Rattle.rules.specs.declared.Refusal.{Refusal}
-use Rattle.rules.specs.declared.Refusal.TheVariants.{BadLine, Limit, Place}
+use Rattle.rules.specs.declared.Refusal.TheVariants.{Limit, Place}
 use Rattle.rules.specs.declared.Verdict.{Verdict}
 use Rattle.rules.specs.declared.Reading.{Reading}
 use Rattle.read_flow.specs.declared.Flow.{Flow}
@@ -34,24 +34,7 @@ flow_table h s = cond (leb 1 h.states && leb h.states most_states) (flow_lines 2
 
 -- ---- one line
 
-abbrev pub said_of : FlowStep → Said
-said_of flow_goes = Said.Line
-said_of flow_ends = Said.End
-said_of (flow_stops r) = Said.Refused r
-
-abbrev pub line_says : Result Unit Refusal → Said
-line_says (Ok tt) = Said.Line
-line_says (Err r) = Said.Refused r
-
-abbrev pub end_says : Result Unit Refusal → Said
-end_says (Ok tt) = Said.End
-end_says (Err r) = Said.Refused r
-
--- why a line is refused; 1 for one that was read
-abbrev pub flow_reason : Result Unit Refusal → Refusal
-flow_reason (Ok tt) = BadLine
-flow_reason (Err r) = r
-
-abbrev pub end_reason : Result Unit Refusal → Refusal
-end_reason (Ok tt) = BadLine
-end_reason (Err r) = r
+abbrev pub said_of : FlowStep → Result Said Refusal
+said_of flow_goes = Ok Said.Line
+said_of flow_ends = Ok Said.End
+said_of (flow_stops r) = Err r

@@ -2,7 +2,7 @@
 ghost use Rattle.std.specs.Prelude.{◌≡◌, ◌&&◌, map, ◌<◌, ◌≤◌, length, take, eqb};
 ghost use Rattle.rules.specs.Limits.{most_states, most_columns};
 ghost use Rattle.sets.specs.Sets.{has};
-ghost use Rattle.rules.specs.Text.{digit, set_of};
+ghost use Rattle.rules.specs.Text.{set_of};
 ghost use Rattle.rules.specs.FlowTable.{is_state, sets_of, set_pairs, flow_asks};
 ghost use Rattle.read_flow.specs.Table.{most_places, columns_in};
 ghost use Rattle.read_flow.specs.Gathering.{nothing, between, with_asked, with_all, no_sets, with_entry};
@@ -64,10 +64,8 @@ fn with_others(g: Gathered, first: u64, others: &[u64]) -> Gathered
     ensures { result ≡ with_all (map (between first) others.now) g }
 {
     let mut more = g;
-    let mut i: usize = 0;
-    while i < others.len() {
-        more = with_asked(more, first, others[i]);
-        i += 1;
+    for &other in others {
+        more = with_asked(more, first, other);
     }
     more
 }
@@ -77,22 +75,10 @@ fn with_pairs(g: Gathered, sets: &[u64]) -> Gathered
     ensures { result ≡ with_all (set_pairs sets.now) g }
 {
     let mut more = g;
-    let mut i: usize = 0;
-    while i < sets.len() {
-        let first = sets[i];
-        i += 1;
-        more = with_others(more, first, &sets[i..]);
+    for (i, &first) in sets.iter().enumerate() {
+        more = with_others(more, first, &sets[i + 1..]);
     }
     more
-}
-
-fn digit_of(x: u8, d: u8) -> u64
-    ensures { result ≡ digit (eqb x d) }
-{
-    if x == d {
-        return 1;
-    }
-    0
 }
 
 // The states that go to d.
@@ -101,10 +87,8 @@ fn set_of(column: &[u8], d: u8) -> u64
     ensures { result ≡ set_of d column.now }
 {
     let mut m: u64 = 0;
-    let mut i = column.len();
-    while 0 < i {
-        i -= 1;
-        m = m * 2 + digit_of(column[i], d);
+    for i in (0..column.len()).rev() {
+        m = m * 2 + read_fields::digit_of(column[i], d);
     }
     m
 }
@@ -124,10 +108,7 @@ fn no_sets() -> Sets
 fn is_new(met: u64, d: u8) -> bool
     ensures { result ≡ (is_state d && eqb (has met d) 0) }
 {
-    if rules::NO_STATE <= d {
-        return false;
-    }
-    !sets::member(met, d as usize)
+    d < rules::NO_STATE && !sets::member(met, d as usize)
 }
 
 // The sets met, with that of d, if it is a destination that was not met.
@@ -154,10 +135,8 @@ fn sets_of(column: &[u8]) -> Sets
     ensures { (result.count ≤ most_states) × (length result.sets ≡ most_states) × (take result.count result.sets ≡ sets_of column.now) }
 {
     let mut got = no_sets();
-    let mut s: usize = 0;
-    while s < column.len() {
-        got = with_entry(got, column, column[s]);
-        s += 1;
+    for &d in column {
+        got = with_entry(got, column, d);
     }
     got
 }
@@ -179,12 +158,9 @@ pub fn gather(table: &[u8], n: usize, columns: usize) -> Gathered
     ensures { result ≡ with_all (flow_asks (columns_in table.now n columns)) nothing }
 {
     let mut more = none_asked();
-    let mut c: usize = 0;
-    while c < columns {
+    for c in 0..columns {
         let at = c * rules::MOST_STATES;
-        let end = at + n;
-        more = with_column(more, &table[at..end]);
-        c += 1;
+        more = with_column(more, &table[at..at + n]);
     }
     more
 }

@@ -111,15 +111,12 @@ fn read_lines(h: Head, s: &[u8]) -> Flow
     let mut end = read_pieces::cut(s, 0, b'\n');
     while end < s.len() {
         let said = says::line_said(k, n, columns, &s[at..end]);
-        match said {
-            Said::Refused(r) => return refuse(r, k),
-            Said::End => {
-                let behind = end + 1;
-                return finish(k, h, columns, &table, &s[behind..]);
-            }
-            Said::Line => {
-                table = line::with_line(table, k - 2, n, columns, &s[at..end]);
-            }
+        let Ok(step) = said else {
+            return refuse(said.err().unwrap_or(Refusal::BadLine), k);
+        };
+        match step {
+            Said::End => return finish(k, h, columns, &table, &s[end + 1..]),
+            Said::Line => table = line::with_line(table, k - 2, n, columns, &s[at..end]),
         }
         at = end + 1;
         k += 1;
@@ -129,13 +126,11 @@ fn read_lines(h: Head, s: &[u8]) -> Flow
 }
 
 // The lines behind the head h of a flow table; a head that no head line can say is 2.
+#[tactic(auto, unfolding(crate::specs::Flows::flow_table))]
 pub fn read_flow(h: Head, s: &[u8]) -> Flow
     ensures { result ≡ flow_of (flow_table h s.now) }
 {
-    if h.states < 1 {
-        return refuse(Refusal::Limit, 0);
-    }
-    if rules::MOST_STATES < h.states {
+    if h.states < 1 || rules::MOST_STATES < h.states {
         return refuse(Refusal::Limit, 0);
     }
     read_lines(h, s)

@@ -8,6 +8,7 @@ ghost use Rattle.read_flow.specs.Table.{most_places, columns_in, goes_well_in};
 use rules::{Refusal, Verdict};
 
 // Whether d is stable in this column; a dash is no destination.
+#[tactic(auto, using(crate::proofs::Tables::stable_in), unfolding(rules::specs::FlowTable::is_stable))]
 fn is_stable(column: &[u8], d: u8) -> bool
     ensures { result ≡ is_stable column.now d }
 {
@@ -15,10 +16,7 @@ fn is_stable(column: &[u8], d: u8) -> bool
         return true;
     }
     let at = d as usize;
-    if column.len() <= at {
-        return false;
-    }
-    column[at] == d
+    at < column.len() && column[at] == d
 }
 
 // Whether state s goes to a stable destination of this column, or to none.
@@ -34,14 +32,11 @@ fn goes_well(table: &[u8], n: usize, columns: usize, s: usize) -> bool
     requires { (n ≤ most_states) × (columns ≤ most_columns) × (length table.now ≡ most_places) × (s < n) }
     ensures { result ≡ goes_well (columns_in table.now n columns) s }
 {
-    let mut c: usize = 0;
-    while c < columns {
+    for c in 0..columns {
         let at = c * rules::MOST_STATES;
-        let end = at + n;
-        if !goes_well_in(&table[at..end], s) {
+        if !goes_well_in(&table[at..at + n], s) {
             return false;
         }
-        c += 1;
     }
     true
 }
@@ -51,12 +46,10 @@ pub fn stability_of(table: &[u8], n: usize, columns: usize) -> Verdict
     requires { (n ≤ most_states) × (columns ≤ most_columns) × (length table.now ≡ most_places) }
     ensures { result ≡ stability (columns_in table.now n columns) (states_from 0 n) }
 {
-    let mut s: usize = 0;
-    while s < n {
+    for s in 0..n {
         if !goes_well(table, n, columns, s) {
             return Verdict::Refused(Refusal::Unstable, s + 2);
         }
-        s += 1;
     }
     Verdict::Accepted
 }

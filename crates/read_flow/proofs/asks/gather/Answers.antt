@@ -3,7 +3,6 @@ use mathlib.Core.Path.{sym, ap, ◌∙◌}
 use mathlib.Core.List.{List}
 use Prim.Native.Nat.{ℕ, ◌-◌, ◌+◌}
 use native.Mathlib.Omega.{arith}
-use borrow.Author.Rules.{rules}
 use Rattle.rules.specs.FlowTable.{set_pairs, sets_of, flow_asks}
 use Rattle.read_flow.specs.declared.asks.Gathered.{Gathered}
 use Rattle.read_flow.specs.Gathering.{with_all}
@@ -18,14 +17,12 @@ loop-c-preserved c =
     let a = c.args in
     let t = a.table.now in
     let rest = columns_from t a.n (l.c + 1) (a.columns - (l.c + 1)) in
-    let got = c.with_column-more.ensures ∙ ap (λ (x : List ℕ). with_all (set_pairs (sets_of x)) l.more) (column-part t a.n l.c) in (
-      search rules,
-      ap (λ (g : Gathered). with_all (flow_asks rest) g) got
-          ∙ sym (ap (λ (x : List (List ℕ)). with_all (flow_asks x) l.more) (columns-next t a.n l.c a.columns (omega arith)) ∙ columns-one (column_in t a.n l.c) rest l.more) ∙ l.invariant.1,
-    )
+    let got = c.with_column-more.ensures ∙ ap (λ (x : List ℕ). with_all (set_pairs (sets_of x)) l.more) (column-part t a.n l.c) in
+    ap (λ (g : Gathered). with_all (flow_asks rest) g) got
+    ∙ sym (ap (λ (x : List (List ℕ)). with_all (flow_asks x) l.more) (columns-next t a.n l.c a.columns (omega arith)) ∙ columns-one (column_in t a.n l.c) rest l.more) ∙ l.invariant
 
 pub returns : goal.returns
 returns c =
     let l = c.loop-c in
     let a = c.args in
-    sym (ap (λ (x : List (List ℕ)). with_all (flow_asks x) l.more) (columns-end a.table.now a.n l.c a.columns (omega arith)) ∙ columns-none l.more) ∙ l.invariant.1
+    sym (ap (λ (x : List (List ℕ)). with_all (flow_asks x) l.more) (columns-end a.table.now a.n l.c a.columns (omega arith)) ∙ columns-none l.more) ∙ l.invariant

@@ -7,6 +7,3 @@ use Rattle.read_flow.proofs.asks.set_of.Given as goal
 
 abbrev pub invariant-loop-i : goal.invariant-loop-i
 invariant-loop-i l = (l.i ≤ length l.column) × (length l.column ≤ 64) × (l.m ≡ set_of l.d (drop l.i l.column))
-
-abbrev pub decreases-loop-i : goal.decreases-loop-i
-decreases-loop-i l = l.i

@@ -4,15 +4,15 @@ use borrow.Author.Rules.{rules}
 use Rattle.read_flow.proofs.Sets.{laid_none, laid_next, laid-all}
 use Rattle.read_flow.proofs.asks.sets_of.Goals as goal
 
-pub loop-s-init : goal.loop-s-init
-loop-s-init c = (search rules, search rules, laid_none _ _ c.no_sets-got.ensures)
+pub loop-d-init : goal.loop-d-init
+loop-d-init c = (search rules, laid_none _ _ c.no_sets-got.ensures)
 
-pub loop-s-preserved : goal.loop-s-preserved
-loop-s-preserved c =
-    let l = c.loop-s in
-    (search rules, search rules, laid_next _ l.s l.got _ (omega arith) (omega arith) c.with_entry-got.ensures l.invariant.2)
+pub loop-d-preserved : goal.loop-d-preserved
+loop-d-preserved c =
+    let l = c.loop-d in
+    (search rules, laid_next _ l.d-index l.got _ (omega arith) (omega arith) c.with_entry-got.ensures l.invariant.1)
 
 pub returns : goal.returns
 returns c =
-    let l = c.loop-s in
-    (omega (arith, l.invariant.2.few), l.invariant.2.places, laid-all _ l.s l.got (omega arith) l.invariant.2)
+    let l = c.loop-d in
+    (omega (arith, l.invariant.1.few), l.invariant.1.places, laid-all _ l.d-index l.got (omega arith) l.invariant.1)

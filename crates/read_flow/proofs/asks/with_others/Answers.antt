@@ -9,14 +9,14 @@ use Rattle.read_flow.specs.Gathering.{between, with_all}
 use Rattle.read_flow.proofs.Gathered.{others-next, others-end}
 use Rattle.read_flow.proofs.asks.with_others.Goals as goal
 
-pub loop-i-preserved : goal.loop-i-preserved
-loop-i-preserved c =
-    let l = c.loop-i in
+pub loop-other-preserved : goal.loop-other-preserved
+loop-other-preserved c =
+    let l = c.loop-other in
     let a = c.args in
-    ap (λ (g : Gathered). with_all (map (between a.first) (drop (l.i + 1) a.others.now)) g) c.with_asked-more.ensures
-    ∙ sym (others-next a.first a.others.now l.i l.more (omega arith)) ∙ l.invariant
+    ap (λ (g : Gathered). with_all (map (between a.first) (drop (l.other-index + 1) a.others.now)) g) c.with_asked-more.ensures
+    ∙ sym (others-next a.first a.others.now l.other-index l.more (omega arith)) ∙ l.invariant
 
 pub returns : goal.returns
 returns c =
-    let l = c.loop-i in
-    sym (others-end _ _ l.i l.more (omega arith)) ∙ l.invariant
+    let l = c.loop-other in
+    sym (others-end _ _ l.other-index l.more (omega arith)) ∙ l.invariant

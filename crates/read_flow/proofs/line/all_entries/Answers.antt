@@ -1,6 +1,5 @@
 -- `line::all_entries` meets its contract: the columns before c have their entries.
 use mathlib.Core.Path.{sym, ◌∙◌}
-use mathlib.Core.Bool.{true}
 use native.Mathlib.Omega.{arith}
 use Rattle.read_flow.proofs.Entries.{entries-all, entries-not}
 use Rattle.read_flow.proofs.line.all_entries.Goals as goal

@@ -8,17 +8,17 @@ use Rattle.read_flow.proofs.line.value_at.Goals as goal
 pub overflow_cast-result : goal.overflow_cast-result
 overflow_cast-result c =
     let a = c.args in
-    let e = sym (c.entry_of-got.ensures ∙ ap (entry_of a.n) c.field.ensures) ∙ c.in-Is.is in
+    let e = sym (c.entry_of.ensures ∙ ap (entry_of a.n) c.field.ensures) ∙ c.in-Some.is in
     omega (arith, entry-below _ _ _ (omega arith) e)
 
-pub returns-in-Is : goal.returns-in-Is
-returns-in-Is c =
+pub returns-in-Some : goal.returns-in-Some
+returns-in-Some c =
     let a = c.args in
-    let e = sym (c.entry_of-got.ensures ∙ ap (entry_of a.n) c.field.ensures) ∙ c.in-Is.is in
+    let e = sym (c.entry_of.ensures ∙ ap (entry_of a.n) c.field.ensures) ∙ c.in-Some.is in
     sym (value-by _ _ _ e)
 
-pub returns-in-Bad : goal.returns-in-Bad
-returns-in-Bad c =
+pub returns-in-None : goal.returns-in-None
+returns-in-None c =
     let a = c.args in
-    let e = sym (c.entry_of-got.ensures ∙ ap (entry_of a.n) c.field.ensures) ∙ c.in-Bad.is in
+    let e = sym (c.entry_of.ensures ∙ ap (entry_of a.n) c.field.ensures) ∙ c.in-None.is in
     sym (value-by _ _ _ e)

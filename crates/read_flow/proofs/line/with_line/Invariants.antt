@@ -6,6 +6,3 @@ use Rattle.read_flow.proofs.line.with_line.Given as goal
 
 abbrev pub invariant-loop-c : goal.invariant-loop-c
 invariant-loop-c l = (l.s < 64) × (l.n ≤ 64) × (l.columns ≤ 16) × (store_from l.n l.l l.s l.c (l.columns - l.c) l.filled ≡ store_from l.n l.l l.s 0 l.columns l.initial.filled)
-
-abbrev pub decreases-loop-c : goal.decreases-loop-c
-decreases-loop-c l = l.columns - l.c

@@ -4,7 +4,6 @@ use mathlib.Core.Bool.{true, false}
 use mathlib.Core.List.{List}
 use Prim.Native.Nat.{ℕ}
 use native.Mathlib.Omega.{arith}
-use borrow.Author.Rules.{rules}
 use Rattle.read_flow.specs.Table.{column_in, goes_well_in}
 use Rattle.read_flow.proofs.Tables.{column-part, well-not, well-on, well-done}
 use Rattle.read_flow.proofs.stable.goes_well.Goals as goal
@@ -15,7 +14,7 @@ returns-then-not-goes_well_in c =
     let a = c.args in
     let e : goes_well_in (column_in a.table.now a.n l.c) a.s ≡ false =
     ap (λ (x : List ℕ). goes_well_in x a.s) (sym (column-part a.table.now a.n l.c)) ∙ sym c.goes_well_in.ensures ∙ c.if-not-goes_well_in.true in
-    sym (well-not a.table.now a.n l.c a.columns a.s (omega arith) e) ∙ l.invariant.1
+    sym (well-not a.table.now a.n l.c a.columns a.s (omega arith) e) ∙ l.invariant
 
 pub loop-c-preserved : goal.loop-c-preserved
 loop-c-preserved c =
@@ -23,10 +22,10 @@ loop-c-preserved c =
     let a = c.args in
     let e : goes_well_in (column_in a.table.now a.n l.c) a.s ≡ true =
     ap (λ (x : List ℕ). goes_well_in x a.s) (sym (column-part a.table.now a.n l.c)) ∙ sym c.goes_well_in.ensures ∙ c.if-not-goes_well_in.false in
-    (search rules, sym (well-on a.table.now a.n l.c a.columns a.s (omega arith) e) ∙ l.invariant.1)
+    sym (well-on a.table.now a.n l.c a.columns a.s (omega arith) e) ∙ l.invariant
 
 pub returns : goal.returns
 returns c =
     let l = c.loop-c in
     let a = c.args in
-    sym (well-done a.table.now a.n l.c a.columns a.s (omega arith)) ∙ l.invariant.1
+    sym (well-done a.table.now a.n l.c a.columns a.s (omega arith)) ∙ l.invariant
