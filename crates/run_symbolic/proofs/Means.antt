@@ -1,15 +1,15 @@
 -- What is told is what the listing means: the next state, and each output.
-use mathlib.Core.Path.{◌≡◌, refl, sym, ap, ap₂, ◌∙◌}
+use mathlib.Core.Path.{◌≡◌, refl, ap, ap₂, ◌∙◌}
 use mathlib.Core.Bool.{Bool, true, false, ◌&&◌, ◌||◌, not, cond}
 use mathlib.Core.List.{List, [], ◌∷◌, map}
 use Prim.Native.Nat.{ℕ, zero, suc, ◌+◌, ◌%◌, ◌<◌, min, max}
 use native.Mathlib.Omega.{arith}
 use lib.Dec.{eqb}
-use lib.Bits.{bit_and, bit_or, bit_xor}
+use lib.Bits.{bit_and, bit_or}
 use borrow.Author.Tests.{eqb-true}
 use Rattle.sets.specs.Sets.{has, states_from}
 use Rattle.sets.proofs.Members.{has-lt, has-and, has-or, has-xor, has-none}
-use Rattle.rules.specs.Text.{digit, dash, nought, one}
+use Rattle.rules.specs.Text.{digit, dash, nought}
 use Rattle.rules.specs.Listing.{all_rows, some}
 use Rattle.rules.specs.Cover.{says_one, says_dash, fires}
 use Rattle.rules.specs.Meaning.{on, free, off, output_means, named_by, next_means}

@@ -20,21 +20,14 @@ pub struct Told {
 fn is_firing(head: Head, row: Row, x: u64, s: usize) -> bool
     ensures { result ≡ fires head row x s }
 {
-    let input = row.input;
-    if !run_inputs::takes_input(head.inputs, input, x) {
-        return false;
-    }
-    sets::member(row.group, s)
+    run_inputs::takes_input(head.inputs, row.input, x) && sets::member(row.group, s)
 }
 
 // The first of two sets that names a state.
 fn first_named(next: u64, other: u64) -> u64
     ensures { result ≡ cond (eqb next 0) other next }
 {
-    if next == 0 {
-        return other;
-    }
-    next
+    if next == 0 { other } else { next }
 }
 
 // What is told with one row more, if it fires.
@@ -55,20 +48,13 @@ fn told_with(head: Head, x: u64, s: usize, told: Told, row: Row) -> Told
 pub fn told_at(t: Listing, x: u64, s: usize) -> Told
     ensures { result ≡ told_by t.head x s untold (all_rows t) }
 {
-    let n = sets::least(t.rows, rules::MOST_ROWS);
-    let all = write_rows::row_count(t.head, t.rows);
     let mut told = Told {
         next: 0,
         ones: 0,
         dashes: 0,
     };
-    let mut k: usize = 0;
-    while k < all {
-        let place = sets::least(k, rules::MOST_ROWS - 1);
-        let state = write_rows::state_at(n, k);
-        let row = write_rows::row_at(n, k, t.table[place], t.said[state]);
-        told = told_with(t.head, x, s, told, row);
-        k += 1;
+    for k in 0..write_rows::row_count(t.head, t.rows) {
+        told = told_with(t.head, x, s, told, write_rows::row_of(&t, k));
     }
     told
 }
