@@ -12,26 +12,28 @@ use Rattle.sets.specs.Sets.{states_from}
 use Rattle.rules.specs.Text.{lines_of, mark_of, mark_is}
 use Rattle.rules.specs.FlowTable.{flow_asks, stability}
 use Rattle.rules.specs.FlowLines.{flow_placed}
-use Rattle.rules.specs.Listing.{blank, with_head, with_dichotomy, with_dichotomies, accepted, refused, flow_gives, flow_read, flow_unended, flow_lines}
+use Rattle.rules.specs.Listing.{blank, with_head, with_dichotomy, with_dichotomies, flow_gives, flow_read, flow_unended, flow_lines}
 use Rattle.rules.specs.declared.Head.{Head}
 use Rattle.rules.specs.declared.Listing.{Listing}
 use Rattle.rules.specs.declared.Requirement.{Requirement}
 use Rattle.rules.specs.declared.Refusal.{Refusal}
 use Rattle.rules.specs.declared.Refusal.TheVariants.{BadLine, Limit, Place}
-use Rattle.rules.specs.declared.Verdict.{Verdict}
 use Rattle.read_flow.specs.declared.asks.Gathered.{Gathered}
 use Rattle.read_flow.specs.Gathering.{nothing, with_asked, with_all}
 use Rattle.read_flow.specs.Flows.{flow_of, flow_given, flow_end, flow_table}
 use Rattle.read_pieces.proofs.Nothing.{none-behind, some-behind}
 use Rattle.read_flow.proofs.Gathered.{asked-more, asked-one}
+use Rattle.rules.specs.Refusals.{refused}
+use Rattle.rules.specs.declared.Refused.{Refused}
+use Rattle.std.specs.Prelude.{Ok, Err}
 
 -- ---- what was gathered
 
-pub given-many : (g : Gathered) → 64 < g.count → flow_given g ≡ flow_of (refused Limit 0)
+pub given-many : (g : Gathered) → 64 < g.count → flow_given g ≡ refused Limit 0
 unfolding flow_given
 given-many g h = rw (lt-leb _ _ h)
 
-pub given-few : (g : Gathered) → g.count ≤ 64 → flow_given g ≡ record { verdict = Verdict.Accepted; dichotomies = g.count; asked = g.asked }
+pub given-few : (g : Gathered) → g.count ≤ 64 → flow_given g ≡ Ok (record { dichotomies = g.count; asked = g.asked })
 unfolding flow_given
 given-few g h = rw (le-leb _ _ h)
 
@@ -91,7 +93,7 @@ gives-gathered h ds = go (leb (length ds) 64) refl
     u : Listing
     u = with_dichotomies ds (with_head h blank)
 
-    go : (b : Bool) → leb (length ds) 64 ≡ b → flow_of (cond b (accepted (with_dichotomies ds (with_head h blank))) (refused Limit 0)) ≡ flow_given (with_all ds nothing)
+    go : (b : Bool) → leb (length ds) 64 ≡ b → flow_of (cond b (Ok (with_dichotomies ds (with_head h blank))) (refused Limit 0)) ≡ flow_given (with_all ds nothing)
     go true e =
         let l = leb-true (length ds) 64 e in
         let g = same-gathered ds (with_head h blank) (omega arith) in
@@ -99,11 +101,11 @@ gives-gathered h ds = go (leb (length ds) 64) refl
     go false e = sym (given-many (with_all ds nothing) (omega (arith, many-counted ds nothing (omega arith) (omega (arith, leb-false (length ds) 64 e)))))
 
 module _ (h : Head) (columns : List (List ℕ)) where
-  pub read-refused : {r : Refusal} {k : ℕ} → stability columns (states_from 0 h.states) ≡ Verdict.Refused r k → flow_read h columns ≡ refused r k
+  pub read-refused : {why : Refused} → stability columns (states_from 0 h.states) ≡ Err why → flow_read h columns ≡ Err why
   unfolding flow_read
   read-refused e = rw (e, flow_read)
 
-  pub read-accepted : stability columns (states_from 0 h.states) ≡ Verdict.Accepted → flow_of (flow_read h columns) ≡ flow_given (with_all (flow_asks columns) nothing)
+  pub read-accepted : stability columns (states_from 0 h.states) ≡ Ok tt → flow_of (flow_read h columns) ≡ flow_given (with_all (flow_asks columns) nothing)
   unfolding flow_read
   read-accepted e = rw (e, flow_read) (gives-gathered h (flow_asks columns))
 

@@ -95,7 +95,7 @@ module _ (n columns : ℕ) (l : List ℕ) where
   line-over q = rw (q, and-false (leb 1 columns))
 
   -- a line that is read has a few columns
-  pub line-few : flow_line n columns l ≡ (Ok tt) → columns ≤ 16
+  pub line-few : flow_line n columns l ≡ Ok tt → columns ≤ 16
   line-few e = go (leb columns 16) refl
     where
       go : (b : Bool) → leb columns 16 ≡ b → columns ≤ 16

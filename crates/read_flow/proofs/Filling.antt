@@ -15,7 +15,7 @@ use Rattle.rules.specs.Text.{lf, lines_of, mark_of, mark_is}
 use Rattle.rules.specs.FlowTable.{no_state}
 use Rattle.rules.specs.FlowLines.{entry_at, column_count, columns_of, flow_line, FlowStep, flow_goes, flow_ends, flow_stops, on_flow, on_flow_end, flow_placed, flow_does}
 use Rattle.rules.specs.Lines.{end_line}
-use Rattle.rules.specs.Listing.{refused, flow_step, flow_ended, flow_unended, flow_lines}
+use Rattle.rules.specs.Listing.{flow_step, flow_ended, flow_unended, flow_lines}
 use Rattle.rules.specs.declared.Head.{Head}
 use Rattle.rules.specs.declared.Mark.{Mark}
 use Rattle.rules.specs.declared.Mark.TheVariants.{Mc, Mo, Pt, Di, Ou, Ft, En, Unknown}
@@ -29,6 +29,7 @@ use Rattle.read_flow.specs.declared.says.Said.{Said}
 use Rattle.read_flow.specs.Flows.{said_of, flow_end}
 use Rattle.read_flow.specs.Table.{column_in, columns_from, columns_in, store_from, blank_table}
 use Rattle.read_flow.proofs.Entries.{line-few}
+use Rattle.rules.specs.Refusals.{refused}
 
 -- a list from j on
 drop-parts : {A : Type 0} (d : A) (l : List A) (j : ℕ) (x : A) (xs : List A) → drop j l ≡ x ∷ xs → (j < length l) × (xs ≡ drop (j + 1) l) × (get_or l j d ≡ x)
@@ -142,7 +143,7 @@ stops-not-ends r e = let z : ◌≡◌ {A = ℕ} 0 1 = cc in omega arith
 -- a line that goes on is one of the states', and is read
 record GoesOn (k n columns : ℕ) (l : List ℕ) : Type 0 where
   early : k ≤ n + 1
-  is_read : flow_line n columns l ≡ (Ok tt)
+  is_read : flow_line n columns l ≡ Ok tt
 
 goes_by : (m : Mark) (k n columns : ℕ) (l : List ℕ) → flow_placed m k n ≡ true → flow_does m n columns l ≡ flow_goes → GoesOn k n columns l
 unfolding flow_placed flow_does
@@ -153,7 +154,7 @@ goes_by Di k n columns l p e = absurd (false≢true p)
 goes_by Ou k n columns l p e = absurd (false≢true p)
 goes_by Ft k n columns l p e = record { early = leb-true k (n + 1) p; is_read = on (flow_line n columns l) e }
   where
-    on : (x : Result Unit Refusal) → on_flow x ≡ flow_goes → x ≡ (Ok tt)
+    on : (x : Result Unit Refusal) → on_flow x ≡ flow_goes → x ≡ Ok tt
     on (Ok tt) q = refl
     on (Err r) q = absurd (stops-not-goes r q)
 goes_by En k n columns l p e = absurd (on (end_line l) e)

@@ -13,8 +13,9 @@ use Rattle.sets.specs.Sets.{states_from}
 use Rattle.rules.specs.FlowTable.{no_state, goes_well, stability, is_stable}
 use Rattle.rules.specs.FlowLines.{entry_at}
 use Rattle.rules.specs.declared.Refusal.TheVariants.{Unstable}
-use Rattle.rules.specs.declared.Verdict.{Verdict}
+use Rattle.rules.specs.Refusals.{refused}
 use Rattle.read_flow.specs.Table.{column_in, columns_from, store_from, goes_well_in}
+use Rattle.std.specs.Prelude.{Ok}
 
 -- ---- columns from c on
 
@@ -76,13 +77,13 @@ module _ (columns : List (List ℕ)) (s n : ℕ) where
       let up : s + 1 ≡ suc s = omega arith in
       rw (one, e, stability) (ap (λ (i : ℕ). stability columns (states_from i (n - (s + 1)))) (sym up))
 
-  pub stable-not : s < n → goes_well columns s ≡ false → stability columns (states_from s (n - s)) ≡ Verdict.Refused Unstable (s + 2)
+  pub stable-not : s < n → goes_well columns s ≡ false → stability columns (states_from s (n - s)) ≡ refused Unstable (s + 2)
   unfolding stability states_from
   stable-not h e =
       let one : n - s ≡ suc (n - (s + 1)) = omega arith in
       rw (one, e, stability)
 
-  pub stable-end : n ≤ s → stability columns (states_from s (n - s)) ≡ Verdict.Accepted
+  pub stable-end : n ≤ s → stability columns (states_from s (n - s)) ≡ Ok tt
   unfolding stability states_from
   stable-end h =
       let none : n - s ≡ 0 = omega arith in

@@ -5,7 +5,7 @@ ghost use Rattle.sets.specs.Sets.{states_from};
 ghost use Rattle.rules.specs.FlowTable.{is_stable, goes_well, stability};
 ghost use Rattle.read_flow.specs.Table.{most_places, columns_in, goes_well_in};
 
-use rules::{Refusal, Verdict};
+use rules::{Refusal, Refused};
 
 // Whether d is stable in this column; a dash is no destination.
 #[tactic(auto, using(crate::proofs::Tables::stable_in), unfolding(rules::specs::FlowTable::is_stable))]
@@ -42,14 +42,14 @@ fn goes_well(table: &[u8], n: usize, columns: usize, s: usize) -> bool
 }
 
 // The first state that does not: 13 at its line.
-pub fn stability_of(table: &[u8], n: usize, columns: usize) -> Verdict
+pub fn stability_of(table: &[u8], n: usize, columns: usize) -> Result<(), Refused>
     requires { (n ≤ most_states) × (columns ≤ most_columns) × (length table.now ≡ most_places) }
     ensures { result ≡ stability (columns_in table.now n columns) (states_from 0 n) }
 {
     for s in 0..n {
         if !goes_well(table, n, columns, s) {
-            return Verdict::Refused(Refusal::Unstable, s + 2);
+            return Err(Refusal::Unstable.at(s + 2));
         }
     }
-    Verdict::Accepted
+    Ok(())
 }

@@ -1,5 +1,5 @@
 -- `read_flow::read_lines` meets its contract: the lines from number k on, with the table filled so far, say what all lines say.
-use Rattle.std.specs.Prelude.{Result, Ok}
+use Rattle.std.specs.Prelude.{Result, Ok, Err}
 use Rattle.rules.specs.declared.Refusal.{Refusal}
 use mathlib.Core.Path.{subst, ◌≡◌, refl, sym, ap, ◌∙◌}
 use mathlib.Core.List.{List}
@@ -9,13 +9,14 @@ use lib.ListN.{length}
 use borrow.Author.Rules.{rules}
 use Rattle.rules.specs.Text.{lines_of}
 use Rattle.rules.specs.FlowLines.{column_count}
-use Rattle.rules.specs.Listing.{refused, flow_step}
+use Rattle.rules.specs.Listing.{flow_step}
 use Rattle.read_pieces.proofs.Laws.{part, cut_of}
 use Rattle.read_flow.specs.Table.{columns_in, store_from}
 use Rattle.read_flow.specs.Flows.{flow_end, said_of, flow_of}
 use Rattle.read_flow.specs.declared.says.Said.{Said}
 use Rattle.read_flow.proofs.Filling.{said-stops, said-ends, said_goes, ends-late, goes-early, goes-few, Filling, filling-first, all-stopped, all-ended, all-last, filling-next}
 use Rattle.read_flow.proofs.read_lines.Goals.{After-line_said-said}
+use Rattle.rules.specs.Refusals.{refused}
 use Rattle.read_flow.proofs.read_lines.Goals as goal
 
 -- what the line does, by what it says
@@ -34,8 +35,8 @@ pub returns-in_default : goal.returns-in_default
 returns-in_default c =
     let l = c.loop-end in
     let why : c.unwrap_or.result ≡ c.in_default.field-0 = c.unwrap_or.ensures ∙ rw (c.err.ensures.value, c.in_default.is) in
-    c.refuse.ensures
-    ∙ ap (λ (r : Refusal). flow_of (refused r l.k)) why
+    ap Err c.at.ensures
+    ∙ ap (λ (r : Refusal). refused r l.k) why
     ∙ ap flow_of (sym (all-stopped _ _ l.table l.k l.at l.end l.invariant.5 l.invariant.0 (omega arith) (said-stops _ (step (goal.at.returns-in_default c).After-line_said-said c.in_default.is))))
 
 pub finish-requires : goal.finish-requires
