@@ -14,7 +14,7 @@ use Rattle.rules.specs.Text.{bytes, same, split, lf, lines_of, mark_of, mark_is}
 use Rattle.rules.specs.Lines.{head_line}
 use Rattle.rules.specs.FlowTable.{flow_asks, stability}
 use Rattle.rules.specs.FlowLines.{flow_head, column_count, columns_of, FlowStep, flow_goes, flow_ends, flow_stops, flow_placed}
-use Rattle.rules.specs.Listing.{blank, with_head, with_dichotomy, with_dichotomies, rows_of, accepted, refused, nothing, conflict, checked, unended, read_lines, read_all}
+use Rattle.rules.specs.Listing.{blank, with_head, with_dichotomy, with_dichotomies, accepted, refused, nothing, conflict, checked, read_lines, read_all}
 use Rattle.rules.specs.Listing.{flow_step, flow_gives, flow_read, flow_ended, flow_unended, flow_lines}
 use Rattle.rules.specs.declared.Head.{Head}
 use Rattle.rules.specs.declared.Listing.{Listing}
@@ -27,7 +27,6 @@ use Rattle.rules.proofs.SoundLines.{head-sound}
 use Rattle.rules.proofs.Sound.{flow-head, flow_after, flow-on, flow-none, flow-last, read_by, all_two, all_one}
 use Rattle.read_pieces.proofs.Laws.{part, Cut, split-some, piece-first}
 use Rattle.read_pieces.proofs.Places.{rest_all}
-use Rattle.read_flow.specs.declared.Flow.{Flow}
 use Rattle.read_flow.specs.Flows.{flow_of, flow_table}
 use Rattle.read_flow.proofs.Ends.{table-read}
 use Rattle.read_listing.specs.Says.{flow_listing, reading_of}

@@ -26,13 +26,13 @@ use Rattle.read_listing.specs.declared.says.Said.{Said}
 use Rattle.read_listing.specs.Says.{head_says, row_says, dichotomy_says, outputs_says, end_says, placed_says, line_says}
 
 -- what a line says may be done
-abbrev pub Room : Said → Listing → Type 0
-Room (Said.Head h) t = h.states ≤ most_states
-Room (Said.Row r) t = t.rows < most_rows
-Room (Said.Dichotomy d) t = t.dichotomies < most_dichotomies
-Room (Said.Outputs s p) t = s.0 < t.head.states
-Room Said.End t = Unit {0}
-Room (Said.Refused r) t = Unit {0}
+abbrev pub Room : Result Said Refusal → Listing → Type 0
+Room (Ok (Said.Head h)) t = h.states ≤ most_states
+Room (Ok (Said.Row r)) t = t.rows < most_rows
+Room (Ok (Said.Dichotomy d)) t = t.dichotomies < most_dichotomies
+Room (Ok (Said.Outputs o)) t = o.state.0 < t.head.states
+Room (Ok Said.End) t = Unit {0}
+Room (Err r) t = Unit {0}
 
 head-has-room : (x : Result Head Refusal) (t : Listing) (m : Bool) (l : List ℕ) → head_line m l ≡ x → Room (head_says x) t
 head-has-room (Ok h) t m l e = (head-sound m l h e).few-states
@@ -65,7 +65,7 @@ placed-has-room Ft k t l = tt
 placed-has-room En k t l = end-has-room (end_line l) t
 placed-has-room Unknown k t l = tt
 
-cond-has-room : (b : Bool) (x y : Said) (t : Listing) → Room x t → Room y t → Room (cond b x y) t
+cond-has-room : (b : Bool) (x y : Result Said Refusal) (t : Listing) → Room x t → Room y t → Room (cond b x y) t
 cond-has-room true x y t p q = p
 cond-has-room false x y t p q = q
 
@@ -73,7 +73,7 @@ line-has-room : (k : ℕ) (t : Listing) (l : List ℕ) → Room (line_says k t.h
 unfolding line_says
 line-has-room k t l = cond-has-room (placed (mark_is (mark_of l)) k t.head t.given l) _ _ t (placed-has-room (mark_is (mark_of l)) k t l) tt
 
-pub said-room : (k : ℕ) (t : Listing) (l : List ℕ) {x : Said} → line_says k t.head t.rows t.dichotomies t.given l ≡ x → Room x t
+pub said-room : (k : ℕ) (t : Listing) (l : List ℕ) {x : Result Said Refusal} → line_says k t.head t.rows t.dichotomies t.given l ≡ x → Room x t
 said-room k t l {x} e = rw e at (line-has-room k t l)
 
 -- ---- what the reader does with a state's outputs

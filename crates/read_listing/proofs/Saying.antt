@@ -5,18 +5,16 @@ use Rattle.rules.specs.declared.Row.{Row}
 use Rattle.rules.specs.declared.Refusal.{Refusal}
 use Rattle.std.specs.Prelude.{Result, Ok, Err}
 use mathlib.Core.Path.{◌≡◌, refl}
-use mathlib.Core.Bool.{Bool, true, false, ◌&&◌, not, cond}
+use mathlib.Core.Bool.{Bool, true, false, cond}
 use mathlib.Core.List.{List}
 use Prim.Native.Nat.{ℕ}
-use borrow.Author.Tests.{eq-eqb, ne_eqb}
 use Rattle.rules.specs.Text.{mark_of, mark_is}
 use Rattle.rules.specs.Lines.{head_line, row_line, dichotomy_line, outputs_line, end_line}
-use Rattle.rules.specs.Listing.{on_head, on_row, on_dichotomy, on_outputs, on_end, had_outputs, placed, line_does, line_step, Step}
+use Rattle.rules.specs.Listing.{on_head, on_row, on_dichotomy, on_outputs, on_end, placed, line_does, line_step, Step}
 use Rattle.rules.specs.declared.Head.{Head}
 use Rattle.rules.specs.declared.Listing.{Listing}
 use Rattle.rules.specs.declared.Mark.{Mark}
 use Rattle.rules.specs.declared.Mark.TheVariants.{Mc, Mo, Pt, Di, Ou, Ft, En, Unknown}
-use Rattle.rules.specs.declared.Refusal.TheVariants.{Place}
 use Rattle.read_listing.specs.declared.says.Said.{Said}
 use Rattle.read_listing.specs.Says.{step_of, head_says, row_says, dichotomy_says, outputs_says, end_says, placed_says, line_says}
 
@@ -51,26 +49,10 @@ placed-step Ft k t l = refl
 placed-step En k t l = end_step (end_line l) t
 placed-step Unknown k t l = refl
 
-cond_step : (b : Bool) (x y : Said) (t : Listing) {p q : Step} → step_of x t ≡ p → step_of y t ≡ q → step_of (cond b x y) t ≡ cond b p q
+cond_step : (b : Bool) (x y : Result Said Refusal) (t : Listing) {p q : Step} → step_of x t ≡ p → step_of y t ≡ q → step_of (cond b x y) t ≡ cond b p q
 cond_step true x y t e f = e
 cond_step false x y t e f = f
 
 pub says-step : (k : ℕ) (t : Listing) (l : List ℕ) → step_of (line_says k t.head t.rows t.dichotomies t.given l) t ≡ line_step k t l
 unfolding line_says line_step
 says-step k t l = cond_step (placed (mark_is (mark_of l)) k t.head t.given l) _ _ t (placed-step (mark_is (mark_of l)) k t l) refl
-
--- by the mark, and whether it is in its place
-pub says-placed : (k : ℕ) (h : Head) (rows dichotomies given : ℕ) (l : List ℕ) {m : Mark} {b : Bool} → m ≡ mark_is (mark_of l) → placed m k h given l ≡ b
-    → line_says k h rows dichotomies given l ≡ cond b (placed_says m k h rows dichotomies l) (Said.Refused Place)
-unfolding line_says
-says-placed k h rows dichotomies given l e f = rw (← e, f)
-
--- the place of an `OU` line: not on line 1, under `MO`, and once for a state
-module _ (k : ℕ) (h : Head) (given : ℕ) (l : List ℕ) where
-  pub outputs-first : k ≡ 1 → placed Ou k h given l ≡ false
-  unfolding placed
-  outputs-first e = rw (eq-eqb k 1 e)
-
-  pub outputs-later : {b : Bool} → (k ≡ 1 → ⊥) → h.moore ≡ b → placed Ou k h given l ≡ (b && not (had_outputs given l))
-  unfolding placed
-  outputs-later n e = rw (ne_eqb k 1 n, e)

@@ -1,4 +1,6 @@
 -- The reading of a small machine: whether its first line names more states than one has, told from what that line says.
+use Rattle.rules.specs.declared.Refusal.{Refusal}
+use Rattle.std.specs.Prelude.{Result, Ok, Err}
 use mathlib.Core.Path.{◌≡◌, refl, sym, ap, ◌∙◌}
 use mathlib.Core.Bool.{Bool, true, false, ◌&&◌, cond}
 use mathlib.Core.List.{List, [], ◌∷◌}
@@ -12,7 +14,6 @@ use Rattle.rules.specs.Text.{lf, lines_of}
 use Rattle.rules.specs.Listing.{blank, refused, Step, goes, ends, stops, line_step, read_all, checked, reading}
 use Rattle.rules.specs.Least.{begins_large, small_reading}
 use Rattle.rules.specs.declared.Head.{Head}
-use Rattle.rules.specs.declared.Listing.{Listing}
 use Rattle.rules.specs.declared.Reading.{Reading}
 use Rattle.rules.specs.declared.Refusal.{Refusal}
 use Rattle.rules.specs.declared.Refusal.TheVariants.{Limit}
@@ -26,14 +27,14 @@ use Rattle.read_listing.proofs.Saying.{says-step}
 abbrev large : Step → Bool
 large x = elim x [ goes t ↦ ltb most_small t.head.states | ends ↦ false | stops r ↦ false ]
 
-large-said : (x : Said) → large (step_of x blank) ≡ ltb most_small (states_said x)
+large-said : (x : Result Said Refusal) → large (step_of x blank) ≡ ltb most_small (states_said x)
 unfolding states_said blank
-large-said (Said.Head h) = refl
-large-said (Said.Row r) = refl
-large-said (Said.Dichotomy d) = refl
-large-said (Said.Outputs s p) = refl
-large-said Said.End = refl
-large-said (Said.Refused r) = refl
+large-said (Ok (Said.Head h)) = refl
+large-said (Ok (Said.Row r)) = refl
+large-said (Ok (Said.Dichotomy d)) = refl
+large-said (Ok (Said.Outputs o)) = refl
+large-said (Ok Said.End) = refl
+large-said (Err r) = refl
 
 large-cons : (l : List ℕ) (rest : List (List ℕ)) → 1 ≤ length rest → begins_large (l ∷ rest) ≡ large (line_step 1 blank l)
 unfolding begins_large
@@ -41,7 +42,7 @@ large-cons l [] h = absurd (omega arith)
 large-cons l (m ∷ ms) h = refl
 
 -- the first line says x
-pub large-line : (s : List ℕ) (r : ℕ) (h : Head) (x : Said) → Cut lf s 0 r → r < length s → h ≡ blank.head
+pub large-line : (s : List ℕ) (r : ℕ) (h : Head) (x : Result Said Refusal) → Cut lf s 0 r → r < length s → h ≡ blank.head
     → x ≡ line_says 1 h 0 0 0 (part s 0 r) → ltb most_small (states_said x) ≡ begins_large (lines_of s)
 unfolding blank
 large-line s r h x c l b e =
@@ -49,7 +50,7 @@ large-line s r h x c l b e =
     (ap begins_large (c.more l)
     ∙ large-cons (part s 0 r) (lines_of (drop (r + 1) s)) (split-some lf (drop (r + 1) s))
     ∙ ap large (sym (says-step 1 blank (part s 0 r)))
-    ∙ ap (λ (y : Said). large (step_of y blank)) (sym (e ∙ ap (λ (g : Head). line_says 1 g 0 0 0 (part s 0 r)) b))
+    ∙ ap (λ (y : Result Said Refusal). large (step_of y blank)) (sym (e ∙ ap (λ (g : Head). line_says 1 g 0 0 0 (part s 0 r)) b))
     ∙ large-said x)
 
 -- no LF ends it

@@ -1,4 +1,6 @@
 -- The lines from one on: what the next line does decides what all of them say.
+use Rattle.rules.specs.declared.Refusal.{Refusal}
+use Rattle.std.specs.Prelude.{Result}
 use mathlib.Core.Path.{◌≡◌, refl, sym, ap, ◌∙◌}
 use mathlib.Core.List.{List, [], ◌∷◌}
 use Prim.Native.Nat.{ℕ, ◌+◌, ◌≤◌, ◌<◌}
@@ -30,12 +32,12 @@ read-cons k t l (m ∷ ms) h = go (line_step k t l)
     go (stops r) = refl
 
 -- the line from `at` to r, which says x
-pub read-line : (k : ℕ) (t : Listing) (s : List ℕ) (at r : ℕ) {x : Said} → Cut lf s at r → r < length s → x ≡ line_says k t.head t.rows t.dichotomies t.given (part s at r)
+pub read-line : (k : ℕ) (t : Listing) (s : List ℕ) (at r : ℕ) {x : Result Said Refusal} → Cut lf s at r → r < length s → x ≡ line_says k t.head t.rows t.dichotomies t.given (part s at r)
     → read_lines k t (lines_of (drop at s)) ≡ behind (step_of x t) k t (lines_of (drop (r + 1) s))
 read-line k t s at r {x} c h e =
     ap (read_lines k t) (c.more h)
     ∙ read-cons k t (part s at r) (lines_of (drop (r + 1) s)) (split-some lf (drop (r + 1) s))
-    ∙ ap (λ (y : Step). behind y k t (lines_of (drop (r + 1) s))) (sym (says-step k t (part s at r)) ∙ ap (λ (y : Said). step_of y t) (sym e))
+    ∙ ap (λ (y : Step). behind y k t (lines_of (drop (r + 1) s))) (sym (says-step k t (part s at r)) ∙ ap (λ (y : Result Said Refusal). step_of y t) (sym e))
 
 -- what stands behind the last LF
 pub read-last : (k : ℕ) (t : Listing) (s : List ℕ) (at r : ℕ) → Cut lf s at r → length s ≤ r → read_lines k t (lines_of (drop at s)) ≡ unended k t.head t.given (part s at (length s))

@@ -20,69 +20,48 @@ use Rattle.read_flow.specs.declared.Flow.{Flow}
 use Rattle.read_listing.specs.declared.says.Said.{Said}
 
 -- what was said, done to a listing
-abbrev pub step_of : Said → Listing → Step
-step_of (Said.Head h) t = goes (with_head h t)
-step_of (Said.Row r) t = goes (with_row r t)
-step_of (Said.Dichotomy d) t = goes (with_dichotomy d t)
-step_of (Said.Outputs s p) t = goes (with_outputs s.0 p t)
-step_of Said.End t = ends
-step_of (Said.Refused r) t = stops r
+abbrev pub step_of : Result Said Refusal → Listing → Step
+step_of (Ok (Said.Head h)) t = goes (with_head h t)
+step_of (Ok (Said.Row r)) t = goes (with_row r t)
+step_of (Ok (Said.Dichotomy d)) t = goes (with_dichotomy d t)
+step_of (Ok (Said.Outputs o)) t = goes (with_outputs o.state.0 o.outputs t)
+step_of (Ok Said.End) t = ends
+step_of (Err r) t = stops r
 
--- why a line is refused; 1 for one that was read
-abbrev pub head_reason : Result Head Refusal → Refusal
-head_reason (Ok h) = BadLine
-head_reason (Err r) = r
+abbrev pub head_says : Result Head Refusal → Result Said Refusal
+head_says (Ok h) = Ok (Said.Head h)
+head_says (Err r) = Err r
 
-abbrev pub row_reason : Result Row Refusal → Refusal
-row_reason (Ok r) = BadLine
-row_reason (Err r) = r
+abbrev pub row_says : Result Row Refusal → Result Said Refusal
+row_says (Ok r) = Ok (Said.Row r)
+row_says (Err r) = Err r
 
-abbrev pub dichotomy_reason : Result Requirement Refusal → Refusal
-dichotomy_reason (Ok d) = BadLine
-dichotomy_reason (Err r) = r
+abbrev pub dichotomy_says : Result Requirement Refusal → Result Said Refusal
+dichotomy_says (Ok d) = Ok (Said.Dichotomy d)
+dichotomy_says (Err r) = Err r
 
-abbrev pub outputs_reason : Result StateOutputs Refusal → Refusal
-outputs_reason (Ok o) = BadLine
-outputs_reason (Err r) = r
+abbrev pub outputs_says : Result StateOutputs Refusal → Result Said Refusal
+outputs_says (Ok o) = Ok (Said.Outputs o)
+outputs_says (Err r) = Err r
 
-abbrev pub end_reason : Result Unit Refusal → Refusal
-end_reason (Ok tt) = BadLine
-end_reason (Err r) = r
-
-abbrev pub head_says : Result Head Refusal → Said
-head_says (Ok h) = Said.Head h
-head_says (Err r) = Said.Refused r
-
-abbrev pub row_says : Result Row Refusal → Said
-row_says (Ok r) = Said.Row r
-row_says (Err r) = Said.Refused r
-
-abbrev pub dichotomy_says : Result Requirement Refusal → Said
-dichotomy_says (Ok d) = Said.Dichotomy d
-dichotomy_says (Err r) = Said.Refused r
-
-abbrev pub outputs_says : Result StateOutputs Refusal → Said
-outputs_says (Ok o) = Said.Outputs o
-outputs_says (Err r) = Said.Refused r
-
-abbrev pub end_says : Result Unit Refusal → Said
-end_says (Ok tt) = Said.End
-end_says (Err r) = Said.Refused r
+abbrev pub end_says : Result Unit Refusal → Result Said Refusal
+end_says (Ok tt) = Ok Said.End
+end_says (Err r) = Err r
 
 -- line k in its place, under the head h and behind so many rows and dichotomies
-unfoldable pub placed_says : Mark → ℕ → Head → ℕ → ℕ → List ℕ → Said
+unfoldable pub placed_says : Mark → ℕ → Head → ℕ → ℕ → List ℕ → Result Said Refusal
 placed_says Mc k h rows dichotomies l = head_says (head_line false l)
 placed_says Mo k h rows dichotomies l = head_says (head_line true l)
 placed_says Pt k h rows dichotomies l = row_says (row_line h rows k l)
 placed_says Di k h rows dichotomies l = dichotomy_says (dichotomy_line h dichotomies l)
 placed_says Ou k h rows dichotomies l = outputs_says (outputs_line h l)
-placed_says Ft k h rows dichotomies l = Said.Refused BadLine
+placed_says Ft k h rows dichotomies l = Err BadLine
 placed_says En k h rows dichotomies l = end_says (end_line l)
-placed_says Unknown k h rows dichotomies l = Said.Refused BadLine
+placed_says Unknown k h rows dichotomies l = Err BadLine
 
 -- and line k, behind the `OU` lines of the states given too
-unfoldable pub line_says : ℕ → Head → ℕ → ℕ → ℕ → List ℕ → Said
-line_says k h rows dichotomies given l = cond (placed (mark_is (mark_of l)) k h given l) (placed_says (mark_is (mark_of l)) k h rows dichotomies l) (Said.Refused Place)
+unfoldable pub line_says : ℕ → Head → ℕ → ℕ → ℕ → List ℕ → Result Said Refusal
+line_says k h rows dichotomies given l = cond (placed (mark_is (mark_of l)) k h given l) (placed_says (mark_is (mark_of l)) k h rows dichotomies l) (Err Place)
 
 -- after `EN`, which stood on line k: a state of a Moore machine without outputs is 17
 unfoldable pub outputs_verdict : ℕ → Head → ℕ → Verdict
@@ -95,13 +74,13 @@ unfolding nothing outputs_verdict
 end_verdict k h given rest = cond (nothing rest) (outputs_verdict k h given) (Verdict.Refused Place (k + 1))
 
 -- how many states a line names; none where it gives no head
-unfoldable pub states_said : Said → ℕ
-states_said (Said.Head h) = h.states
-states_said (Said.Row r) = 0
-states_said (Said.Dichotomy d) = 0
-states_said (Said.Outputs s p) = 0
-states_said Said.End = 0
-states_said (Said.Refused r) = 0
+unfoldable pub states_said : Result Said Refusal → ℕ
+states_said (Ok (Said.Head h)) = h.states
+states_said (Ok (Said.Row r)) = 0
+states_said (Ok (Said.Dichotomy d)) = 0
+states_said (Ok (Said.Outputs o)) = 0
+states_said (Ok Said.End) = 0
+states_said (Err r) = 0
 
 -- ---- a flow table
 

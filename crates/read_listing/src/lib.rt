@@ -37,12 +37,10 @@ fn is_complete(h: Head, given: u64) -> bool
     if !h.moore {
         return true;
     }
-    let mut s: usize = 0;
-    while s < h.states {
+    for s in 0..h.states {
         if !sets::member(given, s) {
             return false;
         }
-        s += 1;
     }
     true
 }
@@ -93,9 +91,11 @@ fn read_lines(s: &[u8], t: &mut Listing) -> Verdict
     let mut end = read_pieces::cut(s, 0, b'\n');
     while end < s.len() {
         let said = says::line_said(k, t.head, t.rows, t.dichotomies, t.given, &s[at..end]);
+        let Ok(step) = said else {
+            return Verdict::Refused(said.err().unwrap_or(Refusal::BadLine), k);
+        };
         at = end + 1;
-        match said {
-            Said::Refused(r) => return Verdict::Refused(r, k),
+        match step {
             Said::End => return end_verdict(k, t.head, t.given, &s[at..]),
             Said::Head(h) => t.head = h,
             Said::Row(r) => {
@@ -108,9 +108,9 @@ fn read_lines(s: &[u8], t: &mut Listing) -> Verdict
                 t.asked[n] = d;
                 t.dichotomies = n + 1;
             }
-            Said::Outputs(who, p) => {
-                let n = who.0;
-                t.said[n] = p;
+            Said::Outputs(o) => {
+                let n = o.state.0;
+                t.said[n] = o.outputs;
                 t.given = t.given | (1 << n);
             }
         }
@@ -121,16 +121,15 @@ fn read_lines(s: &[u8], t: &mut Listing) -> Verdict
 }
 
 // The head of a flow table, if lines l and m begin one.
+#[tactic(auto, unfolding(rules::specs::FlowLines::flow_head))]
 fn flow_head(l: &[u8], m: &[u8]) -> Result<Head, Refusal>
     ensures { result ≡ flow_head l.now m.now }
 {
-    if !read_marks::leads(l, b"MC") {
-        return Err(Refusal::Place);
+    if read_marks::leads(l, b"MC") && read_marks::leads(m, b"FT") {
+        read_head::head_line(false, l)
+    } else {
+        Err(Refusal::Place)
     }
-    if !read_marks::leads(m, b"FT") {
-        return Err(Refusal::Place);
-    }
-    read_head::head_line(false, l)
 }
 
 // What was read of a flow table, under its head.

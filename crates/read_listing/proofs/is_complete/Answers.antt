@@ -1,6 +1,5 @@
 -- `read_listing::is_complete` meets its contract: the states below s were given their outputs.
 use mathlib.Core.Path.{sym, ◌∙◌}
-use mathlib.Core.Bool.{true}
 use native.Mathlib.Omega.{arith}
 use borrow.Author.Tests.{not-true, not-false}
 use Rattle.read_listing.proofs.Ends.{complete-mealy, complete-all, complete-not}

@@ -44,12 +44,12 @@ slice_bounds-flow_head-end-2 c =
     let to = d.to in
     search rules
 
-pub returns-in-Read : goal.returns-in-Read
-returns-in-Read c =
+pub returns-in-Ok : goal.returns-in-Ok
+returns-in-Ok c =
     ap checked (c.flow_reading.ensures ∙ ap (reading_of _) c.read_flow.ensures)
-    ∙ sym (all-flow _ _ _ _ (one (goal.at.returns-in-Read c).After-cut-end) (two (goal.at.returns-in-Read c).After-cut-next) c.least-at.ensures _ (sym c.flow_head-head.ensures ∙ c.in-Read.is))
+    ∙ sym (all-flow _ _ _ _ (one (goal.at.returns-in-Ok c).After-cut-end) (two (goal.at.returns-in-Ok c).After-cut-next) c.least-at.ensures _ (sym c.flow_head-head.ensures ∙ c.in-Ok.is))
 
-pub returns-in-Refused : goal.returns-in-Refused
-returns-in-Refused c =
+pub returns-in-Err : goal.returns-in-Err
+returns-in-Err c =
     c.read_lines.ensures
-    ∙ ap checked (sym (all-ordinary _ _ _ _ (one (goal.at.returns-in-Refused c).After-cut-end) (two (goal.at.returns-in-Refused c).After-cut-next) c.least-at.ensures (sym c.flow_head-head.ensures ∙ c.in-Refused.is)))
+    ∙ ap checked (sym (all-ordinary _ _ _ _ (one (goal.at.returns-in-Err c).After-cut-end) (two (goal.at.returns-in-Err c).After-cut-next) c.least-at.ensures (sym c.flow_head-head.ensures ∙ c.in-Err.is)))
