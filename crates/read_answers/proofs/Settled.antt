@@ -46,3 +46,13 @@ module _ {r : Reading} where
 
     pub clear-checked : ◌≡◌ {A = Verdict} (Ok tt) (conflict (rows_of t)) → Ok t ≡ checked r
     clear-checked h = sym (ap checked e ∙ ap (λ (v : Verdict). judged v t) (sym h))
+
+-- ---- a reading in two parts is the reading
+
+pub lent-judged : {v : Verdict} {t : Listing} {r : Reading} → (v, t) ≡ lent r → judged v t ≡ r
+unfolding lent
+lent-judged {v} {t} {r} e = ap (λ (p : Verdict × Listing). judged p.0 p.1) e ∙ go r
+  where
+    go : (r : Reading) → judged (lent r).0 (lent r).1 ≡ r
+    go (Ok t) = refl
+    go (Err why) = refl

@@ -1,7 +1,6 @@
 pub mod Saying
 pub mod Room
 pub mod Steps
-pub mod Whole
 pub mod Ends
 pub mod Flows
 pub mod Small

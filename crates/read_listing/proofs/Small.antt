@@ -2,7 +2,10 @@
 use Rattle.rules.specs.declared.Refusal.{Refusal}
 use Rattle.std.specs.Prelude.{Result, Ok, Err}
 use mathlib.Core.Path.{◌≡◌, refl, sym, ap, ◌∙◌}
-use mathlib.Core.Bool.{Bool, true, false, ◌&&◌, cond}
+use mathlib.Core.Bool.{Bool, true, false, ◌&&◌, cond, true≢false, false≢true}
+use Rattle.std.specs.Result.{is_err}
+use Rattle.read_answers.specs.Lent.{lent}
+use Rattle.rules.specs.declared.Listing.{Listing}
 use mathlib.Core.List.{List, [], ◌∷◌}
 use Prim.Native.Nat.{ℕ, ◌+◌, ◌≤◌, ◌<◌}
 use native.Mathlib.Omega.{arith}
@@ -11,13 +14,11 @@ use lib.ListN.{length, drop}
 use borrow.Author.Tests.{le-leb, lt-leb}
 use Rattle.rules.specs.Limits.{most_bytes, most_small}
 use Rattle.rules.specs.Text.{lf, lines_of}
-use Rattle.rules.specs.Listing.{blank, refused, Step, goes, ends, stops, line_step, read_all, checked, reading}
+use Rattle.rules.specs.Listing.{blank, Step, goes, ends, stops, line_step, read_all, checked, reading, Reading}
 use Rattle.rules.specs.Least.{begins_large, small_reading}
 use Rattle.rules.specs.declared.Head.{Head}
-use Rattle.rules.specs.declared.Reading.{Reading}
-use Rattle.rules.specs.declared.Refusal.{Refusal}
 use Rattle.rules.specs.declared.Refusal.TheVariants.{Limit}
-use Rattle.rules.specs.declared.Verdict.{Verdict}
+use Rattle.rules.specs.Refusals.{Verdict, refused}
 use Rattle.read_pieces.proofs.Laws.{part, Cut, split-some}
 use Rattle.read_listing.specs.declared.says.Said.{Said}
 use Rattle.read_listing.specs.Says.{step_of, line_says, states_said, first_verdict}
@@ -62,16 +63,16 @@ large-none s r c h = sym (ap begins_large (c.last h))
 
 -- what is refused before the lines, or else x
 abbrev begun : Verdict → Reading → Reading
-unfolding refused
-begun v x = elim v [ Verdict.Accepted ↦ x | Verdict.Refused r k ↦ refused r k ]
+begun (Ok _) x = x
+begun (Err why) x = Err why
 
 -- of a small machine, or of any
 begun-so : (s : List ℕ) (small : Bool) → begun (first_verdict small s) (checked (read_all (lines_of s))) ≡ cond small (small_reading s) (reading s)
-unfolding first_verdict small_reading reading refused
+unfolding first_verdict small_reading reading
 begun-so s small = go (leb (length s) most_bytes) small (begins_large (lines_of s))
   where
     go : (b small g : Bool)
-        → begun (cond b (cond small (cond g (Verdict.Refused Limit 1) Verdict.Accepted) Verdict.Accepted) (Verdict.Refused Limit 0)) (checked (read_all (lines_of s)))
+        → begun (cond b (cond small (cond g (refused Limit 1) (Ok tt)) (Ok tt)) (refused Limit 0)) (checked (read_all (lines_of s)))
         ≡ cond small (cond (b && g) (refused Limit 1) (cond b (checked (read_all (lines_of s))) (refused Limit 0))) (cond b (checked (read_all (lines_of s))) (refused Limit 0))
     go true true true = refl
     go true true false = refl
@@ -80,23 +81,27 @@ begun-so s small = go (leb (length s) most_bytes) small (begins_large (lines_of 
     go false false g = refl
 
 module _ (s : List ℕ) (small : Bool) where
-  pub begun-refused : {r : Refusal} {k : ℕ} → Verdict.Refused r k ≡ first_verdict small s → refused r k ≡ cond small (small_reading s) (reading s)
-  unfolding refused begun
-  begun-refused e = ap (λ (v : Verdict). begun v (checked (read_all (lines_of s)))) e ∙ begun-so s small
+  whole : {v : Verdict} → v ≡ first_verdict small s → begun v (checked (read_all (lines_of s))) ≡ cond small (small_reading s) (reading s)
+  whole e = ap (λ (v : Verdict). begun v (checked (read_all (lines_of s)))) e ∙ begun-so s small
 
-  pub begun-read : Verdict.Accepted ≡ first_verdict small s → checked (read_all (lines_of s)) ≡ cond small (small_reading s) (reading s)
-  unfolding begun
-  begun-read e = ap (λ (v : Verdict). begun v (checked (read_all (lines_of s)))) e ∙ begun-so s small
+  pub begun-refused : {v : Verdict} {t : Listing} → is_err v ≡ true → t ≡ blank → v ≡ first_verdict small s → (v, t) ≡ lent (cond small (small_reading s) (reading s))
+  unfolding lent
+  begun-refused {v = Ok x} h b e = absurd (false≢true h)
+  begun-refused {v = Err why} h b e = ap (λ (t : Listing). (Err why, t)) b ∙ ap lent (whole e)
+
+  pub begun-read : {v : Verdict} → is_err v ≡ false → v ≡ first_verdict small s → checked (read_all (lines_of s)) ≡ cond small (small_reading s) (reading s)
+  begun-read {v = Ok x} h e = whole e
+  begun-read {v = Err why} h e = absurd (true≢false h)
 
   -- the verdict, one test after the other
-  pub first-long : most_bytes < length s → Verdict.Refused Limit 0 ≡ first_verdict small s
+  pub first-long : most_bytes < length s → refused Limit 0 ≡ first_verdict small s
   unfolding first_verdict
   first-long h = rw (lt-leb (length s) most_bytes h)
 
-  pub first_any : length s ≤ most_bytes → small ≡ false → Verdict.Accepted ≡ first_verdict small s
+  pub first_any : length s ≤ most_bytes → small ≡ false → (Ok tt) ≡ first_verdict small s
   unfolding first_verdict
   first_any h e = rw (le-leb (length s) most_bytes h, e)
 
-  pub first_small : {b : Bool} → length s ≤ most_bytes → small ≡ true → begins_large (lines_of s) ≡ b → cond b (Verdict.Refused Limit 1) Verdict.Accepted ≡ first_verdict small s
+  pub first_small : {b : Bool} → length s ≤ most_bytes → small ≡ true → begins_large (lines_of s) ≡ b → cond b (refused Limit 1) (Ok tt) ≡ first_verdict small s
   unfolding first_verdict
   first_small h e g = rw (le-leb (length s) most_bytes h, e, g)

@@ -7,13 +7,13 @@ use Prim.Native.Nat.{ℕ, ◌+◌, ◌≤◌, ◌<◌}
 use native.Mathlib.Omega.{arith}
 use lib.ListN.{length, drop}
 use Rattle.rules.specs.Text.{lf, lines_of}
-use Rattle.rules.specs.Listing.{Step, goes, ends, stops, line_step, ended, unended, refused, read_lines}
+use Rattle.rules.specs.Listing.{Step, goes, ends, stops, line_step, ended, unended, read_lines, Reading}
 use Rattle.rules.specs.declared.Listing.{Listing}
-use Rattle.rules.specs.declared.Reading.{Reading}
 use Rattle.read_pieces.proofs.Laws.{part, Cut, split-some}
 use Rattle.read_listing.specs.declared.says.Said.{Said}
 use Rattle.read_listing.specs.Says.{step_of, line_says}
 use Rattle.read_listing.proofs.Saying.{says-step}
+use Rattle.rules.specs.Refusals.{refused}
 
 -- behind a line that does x, the rest of the lines
 abbrev pub behind : Step → ℕ → Listing → List (List ℕ) → Reading

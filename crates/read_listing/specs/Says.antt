@@ -6,7 +6,7 @@ use Rattle.std.specs.Prelude.{Bool, true, false, cond, List, ℕ, ◌+◌, leb, 
 use Rattle.rules.specs.Limits.{most_bytes}
 use Rattle.rules.specs.Text.{split, lines_of, mark_of, mark_is}
 use Rattle.rules.specs.Lines.{head_line, row_line, dichotomy_line, outputs_line, end_line}
-use Rattle.rules.specs.Listing.{blank, with_head, with_row, with_dichotomy, with_outputs, placed, Step, goes, ends, stops, nothing, complete}
+use Rattle.rules.specs.Listing.{blank, with_head, with_row, with_dichotomy, with_outputs, placed, Step, goes, ends, stops, nothing, complete, Reading}
 use Rattle.rules.specs.Least.{begins_large}
 use Rattle.rules.specs.declared.Head.{Head}
 use Rattle.rules.specs.declared.Listing.{Listing}
@@ -14,10 +14,10 @@ use Rattle.rules.specs.declared.Mark.{Mark}
 use Rattle.rules.specs.declared.Mark.TheVariants.{Mc, Mo, Pt, Di, Ou, Ft, En, Unknown}
 use Rattle.rules.specs.declared.Refusal.{Refusal}
 use Rattle.rules.specs.declared.Refusal.TheVariants.{BadLine, Limit, Place, NoOutputs}
-use Rattle.rules.specs.declared.Verdict.{Verdict}
-use Rattle.rules.specs.declared.Reading.{Reading}
+use Rattle.rules.specs.Refusals.{Verdict, refused}
 use Rattle.read_flow.specs.declared.Flow.{Flow}
 use Rattle.read_listing.specs.declared.says.Said.{Said}
+use Rattle.rules.specs.declared.Refused.{Refused}
 
 -- what was said, done to a listing
 abbrev pub step_of : Result Said Refusal → Listing → Step
@@ -66,12 +66,12 @@ line_says k h rows dichotomies given l = cond (placed (mark_is (mark_of l)) k h 
 -- after `EN`, which stood on line k: a state of a Moore machine without outputs is 17
 unfoldable pub outputs_verdict : ℕ → Head → ℕ → Verdict
 unfolding complete
-outputs_verdict k h given = cond (complete h given) Verdict.Accepted (Verdict.Refused NoOutputs k)
+outputs_verdict k h given = cond (complete h given) (Ok tt) (refused NoOutputs k)
 
 -- and bytes behind it are 3, before that
 unfoldable pub end_verdict : ℕ → Head → ℕ → List (List ℕ) → Verdict
 unfolding nothing outputs_verdict
-end_verdict k h given rest = cond (nothing rest) (outputs_verdict k h given) (Verdict.Refused Place (k + 1))
+end_verdict k h given rest = cond (nothing rest) (outputs_verdict k h given) (refused Place (k + 1))
 
 -- how many states a line names; none where it gives no head
 unfoldable pub states_said : Result Said Refusal → ℕ
@@ -97,10 +97,11 @@ flow_listing h f = record {
   given = blank.given;
 }
 
--- and what was read with it, refused or not
-unfoldable pub reading_of : Head → Flow → Reading
+-- and what is read with it
+unfoldable pub reading_of : Head → Result Flow Refused → Reading
 unfolding flow_listing
-reading_of h f = record { verdict = f.verdict; listing = flow_listing h f }
+reading_of h (Ok f) = Ok (flow_listing h f)
+reading_of h (Err why) = Err why
 
 -- ---- before the lines
 
@@ -108,4 +109,4 @@ reading_of h f = record { verdict = f.verdict; listing = flow_listing h f }
 unfoldable pub first_verdict : Bool → List ℕ → Verdict
 unfolding begins_large split
 first_verdict small s =
-    cond (leb (length s) most_bytes) (cond small (cond (begins_large (lines_of s)) (Verdict.Refused Limit 1) Verdict.Accepted) Verdict.Accepted) (Verdict.Refused Limit 0)
+    cond (leb (length s) most_bytes) (cond small (cond (begins_large (lines_of s)) (refused Limit 1) (Ok tt)) (Ok tt)) (refused Limit 0)

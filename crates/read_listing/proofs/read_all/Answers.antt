@@ -46,10 +46,11 @@ slice_bounds-flow_head-end-2 c =
 
 pub returns-in-Ok : goal.returns-in-Ok
 returns-in-Ok c =
-    ap checked (c.flow_reading.ensures ∙ ap (reading_of _) c.read_flow.ensures)
+    c.flow_reading.ensures
+    ∙ ap (reading_of _) c.read_flow.ensures
     ∙ sym (all-flow _ _ _ _ (one (goal.at.returns-in-Ok c).After-cut-end) (two (goal.at.returns-in-Ok c).After-cut-next) c.least-at.ensures _ (sym c.flow_head-head.ensures ∙ c.in-Ok.is))
 
 pub returns-in-Err : goal.returns-in-Err
 returns-in-Err c =
     c.read_lines.ensures
-    ∙ ap checked (sym (all-ordinary _ _ _ _ (one (goal.at.returns-in-Err c).After-cut-end) (two (goal.at.returns-in-Err c).After-cut-next) c.least-at.ensures (sym c.flow_head-head.ensures ∙ c.in-Err.is)))
+    ∙ sym (all-ordinary _ _ _ _ (one (goal.at.returns-in-Err c).After-cut-end) (two (goal.at.returns-in-Err c).After-cut-next) c.least-at.ensures (sym c.flow_head-head.ensures ∙ c.in-Err.is))

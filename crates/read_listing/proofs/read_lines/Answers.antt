@@ -1,5 +1,5 @@
 -- `read_listing::read_lines` meets its contract: the lines from number k on, behind those that made t, say what all the lines say.
-use Rattle.std.specs.Prelude.{Result, Ok}
+use Rattle.std.specs.Prelude.{Result, Ok, Err}
 use Rattle.rules.specs.declared.Refusal.{Refusal}
 use Rattle.rules.specs.declared.StateOutputs.{StateOutputs}
 use mathlib.Core.Path.{◌≡◌, sym, ap, ◌∙◌, subst}
@@ -9,17 +9,16 @@ use lib.ListN.{drop}
 use borrow.Author.Rules.{rules}
 use Rattle.rules.specs.Limits.{most_states, most_rows, most_dichotomies}
 use Rattle.rules.specs.Text.{lines_of}
-use Rattle.rules.specs.Listing.{blank, refused, read_lines, checked}
+use Rattle.rules.specs.Listing.{blank, read_lines, Reading}
 use Rattle.rules.specs.declared.Listing.{Listing}
-use Rattle.rules.specs.declared.Reading.{Reading}
 use Rattle.read_pieces.proofs.Laws.{cut_of}
 use Rattle.read_listing.specs.declared.says.Said.{Said}
 use Rattle.read_listing.specs.Says.{step_of}
 use Rattle.read_listing.proofs.Room.{Few, blank-few, said-room, outputs-done}
-use Rattle.read_listing.proofs.Ends.{end-at, unended-checked}
-use Rattle.read_listing.proofs.Whole.{refused-checked}
+use Rattle.read_listing.proofs.Ends.{end-at}
 use Rattle.read_listing.proofs.Steps.{behind, read-line, read-last}
 use Rattle.read_listing.proofs.read_lines.Goals.{After-line_said-said, In-Dichotomy, In-Row, in-Head, in-Row, in-Dichotomy, in-Outputs}
+use Rattle.rules.specs.Refusals.{refused}
 use Rattle.read_listing.proofs.read_lines.Goals as goal
 
 -- a line that says x: what stands behind it decides
@@ -58,13 +57,14 @@ loop-end-init c =
 pub returns-in_default : goal.returns-in_default
 returns-in_default c =
     let why : c.unwrap_or.result ≡ c.in_default.field-0 = c.unwrap_or.ensures ∙ rw (c.err.ensures.value, c.in_default.is) in
-    refused-checked _ _ _
-    ∙ ap checked (ap (λ (r : Refusal). refused r c.loop-end.k) why ∙ all_lines (goal.at.returns-in_default c).After-line_said-said c.in_default.is)
+    ap Err c.at.ensures
+    ∙ ap (λ (r : Refusal). refused r c.loop-end.k) why
+    ∙ all_lines (goal.at.returns-in_default c).After-line_said-said c.in_default.is
 
 pub returns-in-End : goal.returns-in-End
 returns-in-End c =
     let l = c.loop-end in
-    end-at l.k l.t _ (l.end + 1) c.end_verdict.ensures ∙ ap checked (all_lines (goal.at.returns-in-End c).After-line_said-said (c.in-Ok.is ∙ ap Ok c.in-End.is))
+    end-at l.k l.t _ (l.end + 1) c.end_verdict.ensures ∙ all_lines (goal.at.returns-in-End c).After-line_said-said (c.in-Ok.is ∙ ap Ok c.in-End.is)
 
 pub offset_bounds-t-n : goal.offset_bounds-t-n
 offset_bounds-t-n c = omega (arith, row_room c)
@@ -118,5 +118,4 @@ loop-end-preserved c =
 pub returns : goal.returns
 returns c =
     let l = c.loop-end in
-    unended-checked l.k l.t.head l.t.given l.t _ c.break_verdict.ensures
-    ∙ ap checked (sym (read-last l.k l.t _ l.at l.end l.invariant.0 (omega arith)) ∙ l.invariant.2)
+    sym c.break_off.ensures ∙ sym (read-last l.k l.t _ l.at l.end l.invariant.0 (omega arith)) ∙ l.invariant.2
