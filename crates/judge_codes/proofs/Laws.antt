@@ -1,75 +1,68 @@
 -- The lines of codes, test by test as they are judged, and one after the other.
 use Rattle.std.specs.Prelude.{Option, Some, None}
+use Rattle.std.specs.Bool.{then_some}
+use Rattle.std.specs.Option.{option_eq}
 use mathlib.Core.Path.{◌≡◌, refl, sym, ap, ap₂, ◌∙◌}
 use mathlib.Core.Bool.{Bool, true, false, ◌&&◌, cond}
 use mathlib.Core.List.{List, [], ◌∷◌}
 use Prim.Native.Nat.{ℕ, zero, suc, ◌+◌, ◌-◌, ◌≤◌, ◌<◌, min}
 use native.Mathlib.Omega.{arith}
 use lib.Dec.{eqb}
-use lib.ListN.{length, get_or, drop, set, replicate}
+use lib.Pointwise.{pointwise}
+use lib.ListN.{length, drop, replicate}
 use borrow.Author.Tests.{eq-eqb, ne_eqb}
 use Rattle.rules.specs.Limits.{most_states, most_bits}
-use Rattle.rules.specs.Text.{bytes, dash, nought, one, lf, same, split, lines_of, fields_of, field_at, mark_of, sized, set_of, numeral_of}
+use Rattle.rules.specs.Text.{bytes, dash, nought, one, lf, same, lines_of, fields_of, field_at, mark_of, sized, set_of, numeral_of}
 use Rattle.rules.specs.Listing.{nothing}
 use Rattle.rules.specs.CheckTexts.{code_fits, width_in, is_number, code_good, codes_refused, codes_read, with_code, codes_from, codes_reading}
 use Rattle.rules.specs.declared.CodeTable.{CodeTable}
 use Rattle.rules.specs.declared.CodesReading.{CodesReading}
 use Rattle.rules.proofs.Known.{same-eq}
-use Rattle.read_marks.proofs.Mark.{same-unlike}
 use Rattle.read_pieces.proofs.Laws.{Cut, part, split-some, piece-first}
 use Rattle.read_pieces.proofs.Nothing.{none-behind, some-behind}
 use Rattle.judge_codes.specs.Lines.{just_dash, code_field, code_said}
-use Rattle.judge_codes.specs.declared.Code.{Code}
 
 -- ---- a field
 
 module _ (f : List ℕ) where
-  pub dash-not : (length f ≡ 1 → ⊥) → false ≡ just_dash f
-  unfolding just_dash
-  dash-not o = sym (same-unlike f (dash ∷ []) o)
-
-  pub dash-one : length f ≡ 1 → eqb (get_or f 0 0) dash ≡ just_dash f
+  pub dash-is : pointwise eqb f (dash ∷ []) ≡ just_dash f
   unfolding just_dash same
-  dash-one e = go f e
+  dash-is = go f
     where
-      alone : (b : Bool) → b ≡ (b && true)
-      alone true = refl
-      alone false = refl
-
-      go : (f : List ℕ) → length f ≡ 1 → eqb (get_or f 0 0) dash ≡ same f (dash ∷ [])
-      go [] e = absurd (omega arith)
-      go (x ∷ []) e = alone (eqb x dash)
-      go (x ∷ (y ∷ ys)) e = absurd (omega arith)
+      go : (f : List ℕ) → pointwise eqb f (dash ∷ []) ≡ same f (dash ∷ [])
+      go [] = refl
+      go (x ∷ []) = refl
+      go (x ∷ (y ∷ ys)) = refl
 
   -- no bits
-  pub field-dash : {w : ℕ} → w ≡ 0 → just_dash f ≡ true → Code.Is 0 ≡ code_field w f
+  pub field-dash : {w : ℕ} {b : Bool} → w ≡ 0 → b ≡ just_dash f → then_some b 0 ≡ code_field w f
   unfolding code_field code_fits just_dash set_of
-  field-dash z e = rw (z, e) (ap (λ (g : List ℕ). Code.Is (set_of one g)) (sym (same-eq f (dash ∷ []) e)))
-
-  pub field-none : {w : ℕ} → w ≡ 0 → just_dash f ≡ false → Code.Bad ≡ code_field w f
-  unfolding code_field code_fits just_dash
-  field-none z e = rw (z, e)
+  field-dash {w} {b} z e = go b e
+    where
+      go : (b : Bool) → b ≡ same f (dash ∷ []) → then_some b 0 ≡ cond (code_fits w f) (Some (set_of one f)) None
+      go true e = rw (z, sym e) (ap (λ (g : List ℕ). Some (set_of one g)) (sym (same-eq f (dash ∷ []) (sym e))))
+      go false e = rw (z, sym e)
 
   fits-some : (w : ℕ) → (w ≡ 0 → ⊥) → code_fits w f ≡ sized most_bits w nought one one f
   unfolding code_fits
   fits-some zero o = absurd (o refl)
   fits-some (suc w) o = refl
 
-  pub field-unfit : (w : ℕ) → (w ≡ 0 → ⊥) → sized most_bits w nought one one f ≡ false → Code.Bad ≡ code_field w f
+  pub field-unfit : (w : ℕ) → (w ≡ 0 → ⊥) → sized most_bits w nought one one f ≡ false → None ≡ code_field w f
   unfolding code_field
-  field-unfit w o e = sym (ap (λ (b : Bool). cond b (Code.Is (set_of one f)) Code.Bad) (fits-some w o ∙ e))
+  field-unfit w o e = sym (ap (λ (b : Bool). cond b (Some (set_of one f)) None) (fits-some w o ∙ e))
 
-  pub field_fit : (w : ℕ) {m : ℕ} → (w ≡ 0 → ⊥) → sized most_bits w nought one one f ≡ true → m ≡ set_of one f → Code.Is m ≡ code_field w f
+  pub field_fit : (w : ℕ) {m : ℕ} → (w ≡ 0 → ⊥) → sized most_bits w nought one one f ≡ true → m ≡ set_of one f → Some m ≡ code_field w f
   unfolding code_field
-  field_fit w o e q = ap Code.Is q ∙ sym (ap (λ (b : Bool). cond b (Code.Is (set_of one f)) Code.Bad) (fits-some w o ∙ e))
+  field_fit w o e q = ap Some q ∙ sym (ap (λ (b : Bool). cond b (Some (set_of one f)) None) (fits-some w o ∙ e))
 
-  pub number-bad : (s : ℕ) → numeral_of f ≡ None → false ≡ is_number s f
+  pub number-is : (s : ℕ) {o : Option ℕ} → o ≡ numeral_of f → option_eq eqb o (Some s) ≡ is_number s f
   unfolding is_number
-  number-bad s e = sym (ap (λ (x : Option ℕ). elim x [ Some v ↦ eqb v s | None ↦ false ]) e)
-
-  pub number_is : (s : ℕ) {v : ℕ} → numeral_of f ≡ Some v → eqb v s ≡ is_number s f
-  unfolding is_number
-  number_is s e = sym (ap (λ (x : Option ℕ). elim x [ Some v ↦ eqb v s | None ↦ false ]) e)
+  number-is s {o} e = go o ∙ ap (λ (x : Option ℕ). elim x [ Some v ↦ eqb v s | None ↦ false ]) e
+    where
+      go : (x : Option ℕ) → option_eq eqb x (Some s) ≡ elim x [ Some v ↦ eqb v s | None ↦ false ]
+      go (Some v) = refl
+      go None = refl
 
 -- ---- a line
 
@@ -83,37 +76,37 @@ width_some l e d = ap length e ∙ sym (ap (λ (b : Bool). cond b 0 (length (fie
 
 module _ (w s : ℕ) (l : List ℕ) where
   -- the tests of a line, one by one
-  by_tests : {a b c d : Bool} → eqb (length (fields_of l)) 3 ≡ a → same (mark_of l) (bytes "SC") ≡ b → is_number s (field_at l 1) ≡ c → code_fits w (field_at l 2) ≡ d → code_said w s l ≡ cond (a && (b && (c && d))) (Code.Is (set_of one (field_at l 2))) Code.Bad
+  by_tests : {a b c d : Bool} → eqb (length (fields_of l)) 3 ≡ a → same (mark_of l) (bytes "SC") ≡ b → is_number s (field_at l 1) ≡ c → code_fits w (field_at l 2) ≡ d → code_said w s l ≡ cond (a && (b && (c && d))) (Some (set_of one (field_at l 2))) None
   unfolding code_said code_good
   by_tests p q r t = rw (p, q, r, t)
 
-  pub said-fields : (length (fields_of l) ≡ 3 → ⊥) → Code.Bad ≡ code_said w s l
+  pub said-fields : (length (fields_of l) ≡ 3 → ⊥) → None ≡ code_said w s l
   said-fields o = sym (by_tests (ne_eqb _ 3 o) refl refl refl)
 
-  pub said-mark : length (fields_of l) ≡ 3 → same (mark_of l) (bytes "SC") ≡ false → Code.Bad ≡ code_said w s l
+  pub said-mark : length (fields_of l) ≡ 3 → same (mark_of l) (bytes "SC") ≡ false → None ≡ code_said w s l
   said-mark e f = sym (by_tests (eq-eqb _ 3 e) f refl refl)
 
-  pub said-number : length (fields_of l) ≡ 3 → same (mark_of l) (bytes "SC") ≡ true → is_number s (field_at l 1) ≡ false → Code.Bad ≡ code_said w s l
+  pub said-number : length (fields_of l) ≡ 3 → same (mark_of l) (bytes "SC") ≡ true → is_number s (field_at l 1) ≡ false → None ≡ code_said w s l
   said-number e f g = sym (by_tests (eq-eqb _ 3 e) f g refl)
 
-  pub said-code : {f : List ℕ} {c : Code} → length (fields_of l) ≡ 3 → same (mark_of l) (bytes "SC") ≡ true → is_number s (field_at l 1) ≡ true → f ≡ field_at l 2 → c ≡ code_field w f → c ≡ code_said w s l
+  pub said-code : {f : List ℕ} {c : Option ℕ} → length (fields_of l) ≡ 3 → same (mark_of l) (bytes "SC") ≡ true → is_number s (field_at l 1) ≡ true → f ≡ field_at l 2 → c ≡ code_field w f → c ≡ code_said w s l
   unfolding code_field
   said-code e f g q r = r ∙ ap (code_field w) q ∙ sym (by_tests (eq-eqb _ 3 e) f g refl)
 
 -- what a line that was judged is
-pub said-good : (w s : ℕ) (l : List ℕ) {c : Code} {m : ℕ} → c ≡ code_said w s l → c ≡ Code.Is m → (code_good w s l ≡ true) × (m ≡ set_of one (field_at l 2))
+pub said-good : (w s : ℕ) (l : List ℕ) {c : Option ℕ} {m : ℕ} → c ≡ code_said w s l → c ≡ Some m → (code_good w s l ≡ true) × (m ≡ set_of one (field_at l 2))
 unfolding code_said
 said-good w s l {c} {m} e f = go (code_good w s l) refl (sym f ∙ e)
   where
-    go : (b : Bool) → code_good w s l ≡ b → Code.Is m ≡ cond b (Code.Is (set_of one (field_at l 2))) Code.Bad → (code_good w s l ≡ true) × (m ≡ set_of one (field_at l 2))
+    go : (b : Bool) → code_good w s l ≡ b → Some m ≡ cond b (Some (set_of one (field_at l 2))) None → (code_good w s l ≡ true) × (m ≡ set_of one (field_at l 2))
     go true q r = (q, cc)
     go false q r = absurd (let z : ◌≡◌ {A = ℕ} 0 1 = cc in omega arith)
 
-pub said-bad : (w s : ℕ) (l : List ℕ) {c : Code} → c ≡ code_said w s l → c ≡ Code.Bad → code_good w s l ≡ false
+pub said-bad : (w s : ℕ) (l : List ℕ) {c : Option ℕ} → c ≡ code_said w s l → c ≡ None → code_good w s l ≡ false
 unfolding code_said
 said-bad w s l {c} e f = go (code_good w s l) refl (sym f ∙ e)
   where
-    go : (b : Bool) → code_good w s l ≡ b → Code.Bad ≡ cond b (Code.Is (set_of one (field_at l 2))) Code.Bad → code_good w s l ≡ false
+    go : (b : Bool) → code_good w s l ≡ b → None ≡ cond b (Some (set_of one (field_at l 2))) None → code_good w s l ≡ false
     go true q r = absurd (let z : ◌≡◌ {A = ℕ} 0 1 = cc in omega arith)
     go false q r = q
 

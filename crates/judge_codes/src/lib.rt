@@ -9,22 +9,13 @@ ghost use Rattle.judge_codes.specs.Lines.{just_dash, code_field, code_said, all_
 
 use read_pieces::{cut, field};
 use rules::{CodeTable, CodesReading, Refusal, Verdict};
-
-// What a line says of the code of its state, bit k its digit k.
-#[derive(Clone, Copy)]
-pub enum Code {
-    Is(u64),
-    Bad,
-}
+use std::array;
 
 // Whether a field is one dash.
 fn is_dash(f: &[u8]) -> bool
     ensures { result ≡ just_dash f.now }
 {
-    if f.len() != 1 {
-        return false;
-    }
-    f[0] == b'-'
+    f == b"-".as_slice()
 }
 
 // How many bits the code of a line has.
@@ -38,45 +29,36 @@ fn width_in(l: &[u8]) -> usize
     f.len()
 }
 
-// What a field says as a code of w bits.
-fn code_in(w: usize, f: &[u8]) -> Code
+// What a field says as a code of w bits, bit k its digit k; none of a bad field.
+fn code_in(w: usize, f: &[u8]) -> Option<u64>
     ensures { result ≡ code_field w f.now }
 {
     if w == 0 {
-        if is_dash(f) {
-            return Code::Is(0);
-        }
-        return Code::Bad;
+        return is_dash(f).then_some(0);
     }
-    let Some(code) = read_fields::places_in(f, rules::MOST_BITS, w, b'0', b'1', b'1')
-    else {
-        return Code::Bad;
-    };
-    Code::Is(code.second)
+    let code = read_fields::places_in(f, rules::MOST_BITS, w, b'0', b'1', b'1')?;
+    Some(code.second)
 }
 
 // Whether a field is the number s.
 fn is_number(s: usize, f: &[u8]) -> bool
     ensures { result ≡ is_number s f.now }
 {
-    let Some(v) = read_fields::numeral_of(f) else {
-        return false;
-    };
-    v == s
+    read_fields::numeral_of(f) == Some(s)
 }
 
-// What the line of the state s says, of codes of w bits.
-fn code_line(w: usize, s: usize, l: &[u8]) -> Code
+// The code that the line of the state s says, of codes of w bits; none of a bad line.
+fn code_line(w: usize, s: usize, l: &[u8]) -> Option<u64>
     ensures { result ≡ code_said w s l.now }
 {
     if read_pieces::field_count(l) != 3 {
-        return Code::Bad;
+        return None;
     }
     if !read_marks::leads(l, b"SC") {
-        return Code::Bad;
+        return None;
     }
     if !is_number(s, field(l, 1)) {
-        return Code::Bad;
+        return None;
     }
     code_in(w, field(l, 2))
 }
@@ -103,21 +85,19 @@ pub fn read_codes(states: usize, text: &[u8]) -> CodesReading
     let width = width_in(&text[0..first]);
     let mut table = [0u64; rules::MOST_STATES];
     let mut at: usize = 0;
-    let mut s: usize = 0;
-    while s < n {
+    for s in 0..n {
         let end = cut(text, at, b'\n');
         if text.len() <= end {
             return refuse(s + 1);
         }
-        let Code::Is(code) = code_line(width, s, &text[at..end]) else {
+        let Some(code) = code_line(width, s, &text[at..end]) else {
             return refuse(s + 1);
         };
         table[s] = code;
         at = end + 1;
-        s += 1;
     }
     if at < text.len() {
-        return refuse(s + 1);
+        return refuse(n + 1);
     }
     let codes = CodeTable { width, table };
     CodesReading {
@@ -132,9 +112,7 @@ fn bit_in(table: [u64; rules::MOST_STATES], states: usize, k: usize) -> u64
     ensures { result ≡ bit_in k (take states table) }
 {
     let mut bit: u64 = 0;
-    let mut s = states;
-    while 0 < s {
-        s -= 1;
+    for s in (0..states).rev() {
         bit = bit * 2 + judge_search::digit_at(table[s], k);
     }
     bit
@@ -145,11 +123,5 @@ pub fn bits_of(table: [u64; rules::MOST_STATES], states: usize) -> [u64; rules::
     ensures { result ≡ all_bits (take (min states most_states) table) }
 {
     let n = sets::least(states, rules::MOST_STATES);
-    let mut bits = [0u64; rules::MOST_BITS];
-    let mut k: usize = 0;
-    while k < rules::MOST_BITS {
-        bits[k] = bit_in(table, n, k);
-        k += 1;
-    }
-    bits
+    array::from_fn(|k| bit_in(table, n, k))
 }

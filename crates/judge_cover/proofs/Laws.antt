@@ -1,12 +1,13 @@
 -- The lines of a cover, test by test as they are judged.
 use Rattle.rules.specs.declared.Refusal.{Refusal}
 use Rattle.std.specs.Prelude.{Result, Option, Ok, Err, None}
+use Rattle.std.specs.List.{list_all}
 use mathlib.Core.Path.{◌≡◌, refl, sym, ap, ◌∙◌}
-use mathlib.Core.Bool.{Bool, true, false, ◌&&◌, ◌||◌, cond, and-false, or-true}
-use mathlib.Core.List.{List}
-use Prim.Native.Nat.{ℕ, ◌+◌, ◌≤◌, ◌<◌}
+use mathlib.Core.Bool.{Bool, true, false, ◌&&◌, ◌||◌, cond}
+use mathlib.Core.List.{List, [], ◌∷◌}
+use Prim.Native.Nat.{ℕ, ◌≤◌, ◌<◌}
 use lib.Dec.{leb, ltb, eqb}
-use lib.ListN.{length, drop, drop_of_length-le}
+use lib.ListN.{length}
 use borrow.Author.Tests.{eq-eqb, ne_eqb, le-leb, lt-leb, lt-ltb, le-ltb}
 use Rattle.rules.specs.Limits.{most_checked}
 use Rattle.rules.specs.Text.{bytes, nought, one, dash, same, mark_of, fields_of, field_at, all_of, numeral_of}
@@ -36,10 +37,10 @@ module _ (m l : List ℕ) where
 
 -- ---- a field of places
 
--- nothing is left of it
-pub all-over : (f : List ℕ) (i : ℕ) → length f ≤ i → true ≡ all_of nought one dash (drop i f)
+pub all-is : (f : List ℕ) → list_all (λ x. eqb x nought || (eqb x one || eqb x dash)) f ≡ all_of nought one dash f
 unfolding all_of
-all-over f i h = sym (ap (all_of nought one dash) (drop_of_length-le f {i = i} h))
+all-is [] = refl
+all-is (x ∷ f) = ap (λ (b : Bool). (eqb x nought || (eqb x one || eqb x dash)) && b) (all-is f)
 
 module _ (k : ℕ) (f : List ℕ) where
   fit-by : {a b : Bool} → leb 1 k ≡ a → eqb (length f) k ≡ b → places_fit k f ≡ (a && (b && all_of nought one dash f))

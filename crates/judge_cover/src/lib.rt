@@ -27,27 +27,14 @@ fn number_behind(l: &[u8], m: &[u8; 2]) -> Option<usize>
 fn is_place(x: u8) -> bool
     ensures { result ≡ (eqb x nought || (eqb x one || eqb x dash)) }
 {
-    if x == b'0' {
-        return true;
-    }
-    if x == b'1' {
-        return true;
-    }
-    x == b'-'
+    matches!(x, b'0' | b'1' | b'-')
 }
 
 // Whether a field is characters `0 1 -`.
 fn are_places(f: &[u8]) -> bool
     ensures { result ≡ all_of nought one dash f.now }
 {
-    let mut i: usize = 0;
-    while i < f.len() {
-        if !is_place(f[i]) {
-            return false;
-        }
-        i += 1;
-    }
-    true
+    f.iter().all(|x| is_place(*x))
 }
 
 // Whether a field is k characters `0 1 -`, and not none.
@@ -80,48 +67,36 @@ fn is_row(h: CoverHeads, l: &[u8]) -> bool
 fn inputs_said(said: Option<usize>, h: CoverHeads) -> Result<CoverHeads, Refusal>
     ensures { result ≡ with_inputs said h }
 {
-    match said {
-        None => Err(Refusal::BadLine),
-        Some(v) => Ok(CoverHeads {
-            part: CoverPart::Outputs,
-            inputs: v,
-            outputs: h.outputs,
-            products: h.products,
-            rows: h.rows,
-        }),
-    }
+    let inputs = said.ok_or(Refusal::BadLine)?;
+    Ok(CoverHeads {
+        part: CoverPart::Outputs,
+        inputs,
+        ..h
+    })
 }
 
 // `.o` and its number.
 fn outputs_said(said: Option<usize>, h: CoverHeads) -> Result<CoverHeads, Refusal>
     ensures { result ≡ with_outputs said h }
 {
-    match said {
-        None => Err(Refusal::BadLine),
-        Some(v) => Ok(CoverHeads {
-            part: CoverPart::Kind,
-            inputs: h.inputs,
-            outputs: v,
-            products: h.products,
-            rows: h.rows,
-        }),
-    }
+    let outputs = said.ok_or(Refusal::BadLine)?;
+    Ok(CoverHeads {
+        part: CoverPart::Kind,
+        outputs,
+        ..h
+    })
 }
 
 // `.p` and its number.
 fn products_said(said: Option<usize>, h: CoverHeads) -> Result<CoverHeads, Refusal>
     ensures { result ≡ with_products said h }
 {
-    match said {
-        None => Err(Refusal::BadLine),
-        Some(v) => Ok(CoverHeads {
-            part: CoverPart::Rows,
-            inputs: h.inputs,
-            outputs: h.outputs,
-            products: v,
-            rows: h.rows,
-        }),
-    }
+    let products = said.ok_or(Refusal::BadLine)?;
+    Ok(CoverHeads {
+        part: CoverPart::Rows,
+        products,
+        ..h
+    })
 }
 
 // A row, one more than there were.
@@ -139,10 +114,8 @@ fn row_said(h: CoverHeads, l: &[u8]) -> Result<CoverHeads, Refusal>
     }
     Ok(CoverHeads {
         part: CoverPart::Rows,
-        inputs: h.inputs,
-        outputs: h.outputs,
-        products: h.products,
         rows: h.rows + 1,
+        ..h
     })
 }
 
@@ -155,10 +128,7 @@ fn end_said(h: CoverHeads) -> Result<CoverHeads, Refusal>
     }
     Ok(CoverHeads {
         part: CoverPart::Over,
-        inputs: h.inputs,
-        outputs: h.outputs,
-        products: h.products,
-        rows: h.rows,
+        ..h
     })
 }
 
@@ -169,10 +139,7 @@ fn kind_said(h: CoverHeads, l: &[u8]) -> Result<CoverHeads, Refusal>
     if read_names::same_bytes(l, b".type fd") {
         return Ok(CoverHeads {
             part: CoverPart::Products,
-            inputs: h.inputs,
-            outputs: h.outputs,
-            products: h.products,
-            rows: h.rows,
+            ..h
         });
     }
     products_said(number_behind(l, b".p"), h)
@@ -192,8 +159,7 @@ fn body_said(h: CoverHeads, l: &[u8]) -> Result<CoverHeads, Refusal>
 pub fn line_said(h: CoverHeads, l: &[u8]) -> Result<CoverHeads, Refusal>
     ensures { result ≡ cover_line h l.now }
 {
-    let part = h.part;
-    match part {
+    match h.part {
         CoverPart::Inputs => inputs_said(number_behind(l, b".i"), h),
         CoverPart::Outputs => outputs_said(number_behind(l, b".o"), h),
         CoverPart::Kind => kind_said(h, l),

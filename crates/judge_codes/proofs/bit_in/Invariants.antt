@@ -6,7 +6,4 @@ use Rattle.rules.specs.CheckTexts.{bit_in}
 use Rattle.judge_codes.proofs.bit_in.Given as goal
 
 abbrev pub invariant-loop-s : goal.invariant-loop-s
-invariant-loop-s l = (l.s ≤ l.states) × (l.states ≤ 64) × (length l.table ≡ 64) × (l.bit ≡ bit_in l.k (drop l.s (take l.states l.table)))
-
-abbrev pub decreases-loop-s : goal.decreases-loop-s
-decreases-loop-s l = l.s
+invariant-loop-s l = (l.states ≤ 64) × (length l.table ≡ 64) × (l.bit ≡ bit_in l.k (drop l.s (take l.states l.table)))

@@ -4,16 +4,12 @@ use native.Mathlib.Omega.{arith}
 use Rattle.rules.specs.Limits.{most_bits}
 use Rattle.rules.specs.Text.{nought, one}
 use Rattle.read_fields.proofs.Sets.{places-read, places-none}
-use Rattle.judge_codes.proofs.Laws.{field-dash, field-none, field-unfit, field_fit}
+use Rattle.judge_codes.proofs.Laws.{field-dash, field-unfit, field_fit}
 use Rattle.judge_codes.proofs.code_in.Goals as goal
-
-pub returns-then-is_dash : goal.returns-then-is_dash
-returns-then-is_dash c =
-    field-dash _ c.if-w-eq0.true (sym c.is_dash.ensures ∙ c.if-is_dash.true)
 
 pub returns-then-w-eq0 : goal.returns-then-w-eq0
 returns-then-w-eq0 c =
-    field-none _ c.if-w-eq0.true (sym c.is_dash.ensures ∙ c.if-is_dash.false)
+    c.then_some.ensures ∙ field-dash c.args.f.now c.if-w-eq0.true c.is_dash.ensures
 
 pub returns-in_default : goal.returns-in_default
 returns-in_default c =

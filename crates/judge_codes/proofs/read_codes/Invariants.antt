@@ -9,7 +9,4 @@ use Rattle.judge_codes.proofs.read_codes.Given as goal
 
 abbrev pub invariant-loop-s : goal.invariant-loop-s
 invariant-loop-s l =
-    (l.at ≤ length l.text) × (l.s ≤ l.n) × (codes_from l.s (l.n - l.s) (record { width = l.width; table = l.table }) (lines_of (drop l.at l.text)) ≡ codes_reading (min l.states most_states) (lines_of l.text))
-
-abbrev pub decreases-loop-s : goal.decreases-loop-s
-decreases-loop-s l = l.n - l.s
+    (l.at ≤ length l.text) × (codes_from l.s (l.n - l.s) (record { width = l.width; table = l.table }) (lines_of (drop l.at l.text)) ≡ codes_reading (min l.states most_states) (lines_of l.text))

@@ -1,22 +1,14 @@
--- `judge_cover::are_places` meets its contract: what is left of the field decides.
-use mathlib.Core.Path.{sym, ◌∙◌}
-use native.Mathlib.Omega.{arith}
+-- `judge_cover::are_places` meets its contract: character by character.
+use Rattle.std.proofs.Common.{rules, tests}
+use Rattle.std.proofs.lemmas.Iterator.{YieldsList-from_slice}
+use Rattle.std.proofs.lemmas.Iterator.Search.{all_from_yields_List}
+use mathlib.Core.Bool.{◌||◌}
+use mathlib.Core.Path.{◌∙◌}
+use lib.Dec.{eqb}
 use Rattle.rules.specs.Text.{nought, one, dash}
-use Rattle.read_fields.proofs.Characters.{all-step}
-use Rattle.judge_cover.proofs.Laws.{all-over}
+use Rattle.judge_cover.proofs.Laws.{all-is}
 use Rattle.judge_cover.proofs.are_places.Goals as goal
-
-pub returns-then-not-is_place : goal.returns-then-not-is_place
-returns-then-not-is_place c =
-    let l = c.loop-i in
-    sym (sym l.invariant.1 ∙ all-step nought one dash _ l.i (omega arith) (sym c.is_place.ensures ∙ c.if-not-is_place.true))
-
-pub loop-i-preserved : goal.loop-i-preserved
-loop-i-preserved c =
-    let l = c.loop-i in
-    (omega arith, sym (all-step nought one dash _ l.i (omega arith) (sym c.is_place.ensures ∙ c.if-not-is_place.false)) ∙ l.invariant.1)
 
 pub returns : goal.returns
 returns c =
-    let l = c.loop-i in
-    all-over _ l.i (omega (arith, c.loop-i-test.false)) ∙ l.invariant.1
+    all_from_yields_List (λ x. eqb x nought || (eqb x one || eqb x dash)) _ _ _ c.all.ensures.ran (YieldsList-from_slice c.args.f.now cc) (λ x b q k. search (rules, tests)) ∙ all-is c.args.f.now
