@@ -19,31 +19,24 @@ use Rattle.rules.specs.declared.KissHeads.{KissHeads}
 use Rattle.rules.specs.declared.KissMark.{KissMark}
 use Rattle.rules.specs.declared.Refusal.TheVariants.{BadLine, Limit, Place, Names}
 use Rattle.read_kiss_lines.specs.Says.{inputs_told, outputs_told, told, heads_line, field_piece, reset_line, kiss_end_line, state_pieces, kiss_row_line}
-use Rattle.read_kiss_lines.specs.declared.heads.HeadsLine.{HeadsLine}
-use Rattle.read_kiss_lines.specs.declared.states.ResetLine.{ResetLine}
-use Rattle.read_kiss_lines.specs.declared.row.KissRowLine.{KissRowLine}
+use Rattle.read_kiss_lines.specs.declared.row.KissRow.{KissRow}
+use Rattle.read_names.specs.declared.Piece.{Piece}
 use Rattle.read_kiss.specs.declared.says.Said.{Said}
 use Rattle.read_kiss.specs.Says.{heads_says, reset_says, row_says, end_says, placed_says, line_says, step_of}
 use Rattle.read_kiss.proofs.Fields.{Inside, field-inside, field-piece}
 
--- by the mark, and whether it is in its place
-pub says-placed : (k : ℕ) (h : KissHeads) (count : ℕ) (l : List ℕ) {m : KissMark} {b : Bool} → m ≡ kiss_mark (mark_of l) → kiss_placed m h ≡ b
-    → line_says k h count l ≡ cond b (placed_says m k h count l) (Said.Refused Place)
-unfolding line_says
-says-placed k h count l e f = rw (← e, f)
-
 -- ---- names stand in the line, of n bytes
 
-abbrev pub Within : ℕ → Said → Type 0
-Within n (Said.Heads h) = Unit {0}
-Within n (Said.Reset p) = Inside n p
-Within n (Said.Row row) = Inside n row.states.present × Inside n row.states.next
-Within n Said.End = Unit {0}
-Within n (Said.Refused r) = Unit {0}
+abbrev pub Within : ℕ → Result Said Refusal → Type 0
+Within n (Ok (Said.Heads h)) = Unit {0}
+Within n (Ok (Said.Reset p)) = Inside n p
+Within n (Ok (Said.Row row)) = Inside n row.states.present × Inside n row.states.next
+Within n (Ok Said.End) = Unit {0}
+Within n (Err r) = Unit {0}
 
-heads-within : (n : ℕ) (x : HeadsLine) → Within n (heads_says x)
-heads-within n (HeadsLine.Read h) = tt
-heads-within n (HeadsLine.Refused r) = tt
+heads-within : (n : ℕ) (x : Result KissHeads Refusal) → Within n (heads_says x)
+heads-within n (Ok h) = tt
+heads-within n (Err r) = tt
 
 end-within : (n : ℕ) (x : Result Unit Refusal) → Within n (end_says x)
 end-within n (Ok tt) = tt
@@ -62,7 +55,7 @@ reset-within : (l : List ℕ) → Within (length l) (reset_says (reset_line l))
 unfolding reset_line
 reset-within l = go (reset_fits l) refl (is_short (field_at l 1))
   where
-    go : (b : Bool) → reset_fits l ≡ b → (c : Bool) → Within (length l) (reset_says (cond b (cond c (ResetLine.Read (field_piece l 1)) (ResetLine.Refused Names)) (ResetLine.Refused BadLine)))
+    go : (b : Bool) → reset_fits l ≡ b → (c : Bool) → Within (length l) (reset_says (cond b (cond c (Ok (field_piece l 1)) (Err Names)) (Err BadLine)))
     go true e true = field-inside l 1 (omega (arith, reset-two l e))
     go true e false = tt
     go false e c = tt
@@ -72,7 +65,7 @@ unfolding kiss_row_line state_pieces
 row_within i o l = go (row_fields_fit i o l) refl (is_short (field_at l 1) && is_short (field_at l 2))
   where
     go : (b : Bool) → row_fields_fit i o l ≡ b → (c : Bool)
-        → Within (length l) (row_says (cond b (cond c (KissRowLine.Read (record { input = pattern_of (field_at l 0); states = state_pieces l; outputs = pattern_of (field_at l 3) })) (KissRowLine.Refused Names)) (KissRowLine.Refused BadLine)))
+        → Within (length l) (row_says (cond b (cond c (Ok (record { input = pattern_of (field_at l 0); states = state_pieces l; outputs = pattern_of (field_at l 3) })) (Err Names)) (Err BadLine)))
     go true e true = (field-inside l 1 (omega (arith, row-four i o l e)), field-inside l 2 (omega (arith, row-four i o l e)))
     go true e false = tt
     go false e c = tt
@@ -88,19 +81,19 @@ placed-within KissMark.End k h count l = end-within (length l) (kiss_end_line co
 placed-within KissMark.Unknown k h count l = tt
 placed-within KissMark.Row k h count l = row_within h.inputs h.outputs l
 
-cond-within : (n : ℕ) (b : Bool) (x y : Said) → Within n x → Within n y → Within n (cond b x y)
+cond-within : (n : ℕ) (b : Bool) (x y : Result Said Refusal) → Within n x → Within n y → Within n (cond b x y)
 cond-within n true x y p q = p
 cond-within n false x y p q = q
 
-pub says-within : (k : ℕ) (h : KissHeads) (count : ℕ) (l : List ℕ) {x : Said} → x ≡ line_says k h count l → Within (length l) x
+pub says-within : (k : ℕ) (h : KissHeads) (count : ℕ) (l : List ℕ) {x : Result Said Refusal} → x ≡ line_says k h count l → Within (length l) x
 unfolding line_says
 says-within k h count l {x} e =
-    rw e (cond-within (length l) (kiss_placed (kiss_mark (mark_of l)) h) (placed_says (kiss_mark (mark_of l)) k h count l) (Said.Refused Place) (placed-within (kiss_mark (mark_of l)) k h count l) tt)
+    rw e (cond-within (length l) (kiss_placed (kiss_mark (mark_of l)) h) (placed_says (kiss_mark (mark_of l)) k h count l) (Err Place) (placed-within (kiss_mark (mark_of l)) k h count l) tt)
 
 -- ---- what is said, done
 
 module _ (l : List ℕ) (k : ℕ) (d : Draft) where
-  cond_step : (b : Bool) (h : KissHeads) → step_of l k (heads_says (cond b (HeadsLine.Read h) (HeadsLine.Refused Limit))) d ≡ cond b (goes (with_heads h d)) (stops Limit)
+  cond_step : (b : Bool) (h : KissHeads) → step_of l k (heads_says (cond b (Ok h) (Err Limit))) d ≡ cond b (goes (with_heads h d)) (stops Limit)
   cond_step true h = refl
   cond_step false h = refl
 
@@ -129,7 +122,7 @@ module _ (l : List ℕ) (k : ℕ) (d : Draft) where
   reset-step = go (reset_fits l) refl (is_short (field_at l 1))
     where
       go : (b : Bool) → reset_fits l ≡ b → (c : Bool)
-          → step_of l k (reset_says (cond b (cond c (ResetLine.Read (field_piece l 1)) (ResetLine.Refused Names)) (ResetLine.Refused BadLine))) d
+          → step_of l k (reset_says (cond b (cond c (Ok (field_piece l 1)) (Err Names)) (Err BadLine))) d
           ≡ cond b (cond c (goes (record { heads = with_reset d.heads; names = field_at l 1 ∷ []; rows = d.rows; table = d.table })) (stops Names)) (stops BadLine)
       go true e true = ap (λ (f : List ℕ). goes (record { heads = with_reset d.heads; names = f ∷ []; rows = d.rows; table = d.table })) (field-piece l 1 (omega (arith, reset-two l e)))
       go true e false = refl
@@ -149,7 +142,7 @@ module _ (l : List ℕ) (k : ℕ) (d : Draft) where
   row_step = go (row_fields_fit d.heads.inputs d.heads.outputs l) refl (is_short (field_at l 1) && is_short (field_at l 2))
     where
       go : (b : Bool) → row_fields_fit d.heads.inputs d.heads.outputs l ≡ b → (c : Bool)
-          → step_of l k (row_says (cond b (cond c (KissRowLine.Read (record { input = pattern_of (field_at l 0); states = state_pieces l; outputs = pattern_of (field_at l 3) })) (KissRowLine.Refused Names)) (KissRowLine.Refused BadLine))) d
+          → step_of l k (row_says (cond b (cond c (Ok (record { input = pattern_of (field_at l 0); states = state_pieces l; outputs = pattern_of (field_at l 3) })) (Err Names)) (Err BadLine))) d
           ≡ cond b (cond c (row_does k d (pattern_of (field_at l 0)) (field_at l 1) (field_at l 2) (pattern_of (field_at l 3))) (stops Names)) (stops BadLine)
       go true e true =
           ap₂ (λ (f g : List ℕ). row_does k d (pattern_of (field_at l 0)) f g (pattern_of (field_at l 3)))
@@ -169,28 +162,28 @@ module _ (l : List ℕ) (k : ℕ) (d : Draft) where
   placed-step KissMark.Unknown = refl
   placed-step KissMark.Row = row_step
 
-  either_step : (b : Bool) (x y : Said) {p q : KissStep} → step_of l k x d ≡ p → step_of l k y d ≡ q → step_of l k (cond b x y) d ≡ cond b p q
+  either_step : (b : Bool) (x y : Result Said Refusal) {p q : KissStep} → step_of l k x d ≡ p → step_of l k y d ≡ q → step_of l k (cond b x y) d ≡ cond b p q
   either_step true x y e f = e
   either_step false x y e f = f
 
   pub says-step : step_of l k (line_says k d.heads (length d.names) l) d ≡ kiss_step k d l
   unfolding line_says kiss_step
-  says-step = either_step (kiss_placed (kiss_mark (mark_of l)) d.heads) (placed_says (kiss_mark (mark_of l)) k d.heads (length d.names) l) (Said.Refused Place) (placed-step (kiss_mark (mark_of l))) refl
+  says-step = either_step (kiss_placed (kiss_mark (mark_of l)) d.heads) (placed_says (kiss_mark (mark_of l)) k d.heads (length d.names) l) (Err Place) (placed-step (kiss_mark (mark_of l))) refl
 
 -- ---- headers keep the count of rows
 
-abbrev pub Counts : KissHeads → Said → Type 0
-Counts g (Said.Heads h) = h.lines ≡ g.lines
-Counts g (Said.Reset p) = Unit {0}
-Counts g (Said.Row row) = Unit {0}
-Counts g Said.End = Unit {0}
-Counts g (Said.Refused r) = Unit {0}
+abbrev pub Counts : KissHeads → Result Said Refusal → Type 0
+Counts g (Ok (Said.Heads h)) = h.lines ≡ g.lines
+Counts g (Ok (Said.Reset p)) = Unit {0}
+Counts g (Ok (Said.Row row)) = Unit {0}
+Counts g (Ok Said.End) = Unit {0}
+Counts g (Err r) = Unit {0}
 
-cond-counts : (g : KissHeads) (b : Bool) (x y : Said) → Counts g x → Counts g y → Counts g (cond b x y)
+cond-counts : (g : KissHeads) (b : Bool) (x y : Result Said Refusal) → Counts g x → Counts g y → Counts g (cond b x y)
 cond-counts g true x y p q = p
 cond-counts g false x y p q = q
 
-limit-counts : (g h : KissHeads) (b : Bool) → h.lines ≡ g.lines → Counts g (heads_says (cond b (HeadsLine.Read h) (HeadsLine.Refused Limit)))
+limit-counts : (g h : KissHeads) (b : Bool) → h.lines ≡ g.lines → Counts g (heads_says (cond b (Ok h) (Err Limit)))
 limit-counts g h true e = e
 limit-counts g h false e = tt
 
@@ -206,17 +199,17 @@ number_counts KissMark.Unknown k g (Some n) = tt
 number_counts KissMark.Row k g (Some n) = tt
 number_counts m k g None = tt
 
-reset-counts : (g : KissHeads) (x : ResetLine) → Counts g (reset_says x)
-reset-counts g (ResetLine.Read p) = tt
-reset-counts g (ResetLine.Refused r) = tt
+reset-counts : (g : KissHeads) (x : Result Piece Refusal) → Counts g (reset_says x)
+reset-counts g (Ok p) = tt
+reset-counts g (Err r) = tt
 
 end-counts : (g : KissHeads) (x : Result Unit Refusal) → Counts g (end_says x)
 end-counts g (Ok tt) = tt
 end-counts g (Err r) = tt
 
-row_counts : (g : KissHeads) (x : KissRowLine) → Counts g (row_says x)
-row_counts g (KissRowLine.Read row) = tt
-row_counts g (KissRowLine.Refused r) = tt
+row_counts : (g : KissHeads) (x : Result KissRow Refusal) → Counts g (row_says x)
+row_counts g (Ok row) = tt
+row_counts g (Err r) = tt
 
 placed-counts : (m : KissMark) (k : ℕ) (g : KissHeads) (count : ℕ) (l : List ℕ) → Counts g (placed_says m k g count l)
 unfolding placed_says
@@ -229,7 +222,7 @@ placed-counts KissMark.End k g count l = end-counts g (kiss_end_line count l)
 placed-counts KissMark.Unknown k g count l = tt
 placed-counts KissMark.Row k g count l = row_counts g (kiss_row_line g.inputs g.outputs l)
 
-pub says-counts : (k : ℕ) (g : KissHeads) (count : ℕ) (l : List ℕ) {x : Said} → x ≡ line_says k g count l → Counts g x
+pub says-counts : (k : ℕ) (g : KissHeads) (count : ℕ) (l : List ℕ) {x : Result Said Refusal} → x ≡ line_says k g count l → Counts g x
 unfolding line_says
 says-counts k g count l {x} e =
-    rw e (cond-counts g (kiss_placed (kiss_mark (mark_of l)) g) (placed_says (kiss_mark (mark_of l)) k g count l) (Said.Refused Place) (placed-counts (kiss_mark (mark_of l)) k g count l) tt)
+    rw e (cond-counts g (kiss_placed (kiss_mark (mark_of l)) g) (placed_says (kiss_mark (mark_of l)) k g count l) (Err Place) (placed-counts (kiss_mark (mark_of l)) k g count l) tt)

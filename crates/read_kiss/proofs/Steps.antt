@@ -1,4 +1,6 @@
 -- The lines from one on: what the next line does decides what all of them say, and what the code does with it is that.
+use Rattle.rules.specs.declared.Refusal.{Refusal}
+use Rattle.std.specs.Prelude.{Result, Ok}
 use mathlib.Core.Path.{◌≡◌, refl, sym, ap, ap₂, ◌∙◌, subst}
 use mathlib.Core.Bool.{Bool, true, false, cond, false≢true}
 use mathlib.Core.List.{List, [], ◌∷◌, ◌++◌}
@@ -51,14 +53,14 @@ read-cons k d l (m ∷ ms) h = go (kiss_step k d l)
     go (stops r) = refl
 
 -- the line from `at` to r, which says x
-pub read-line : (s : List ℕ) (d : Draft) → Room d → (k at r : ℕ) {x : Said} → Cut lf s at r → r < length s → x ≡ line_says k d.heads d.names.count (part s at r)
+pub read-line : (s : List ℕ) (d : Draft) → Room d → (k at r : ℕ) {x : Result Said Refusal} → Cut lf s at r → r < length s → x ≡ line_says k d.heads d.names.count (part s at r)
     → walked k (draft_in s d) (lines_of (drop at s)) ≡ behind (step_of (part s at r) k x (draft_in s d)) k (draft_in s d) (lines_of (drop (r + 1) s))
 unfolding draft_in
 read-line s d room k at r {x} c h e =
     let same : x ≡ line_says k d.heads (length (names_in s d.names)) (part s at r) = e ∙ ap (λ (n : ℕ). line_says k d.heads n (part s at r)) (sym (names-count s d.names room.names)) in
     ap (walked k (draft_in s d)) (c.more h)
     ∙ read-cons k (draft_in s d) (part s at r) (lines_of (drop (r + 1) s)) (split-some lf (drop (r + 1) s))
-    ∙ ap (λ (y : KissStep). behind y k (draft_in s d) (lines_of (drop (r + 1) s))) (sym (says-step (part s at r) k (draft_in s d)) ∙ ap (λ (y : Said). step_of (part s at r) k y (draft_in s d)) (sym same))
+    ∙ ap (λ (y : KissStep). behind y k (draft_in s d) (lines_of (drop (r + 1) s))) (sym (says-step (part s at r) k (draft_in s d)) ∙ ap (λ (y : Result Said Refusal). step_of (part s at r) k y (draft_in s d)) (sym same))
 
 -- what stands behind the last LF
 pub read-last : (s : List ℕ) (d : Draft) (k at r : ℕ) → Cut lf s at r → length s ≤ r → walked k (draft_in s d) (lines_of (drop at s)) ≡ (broken k d.heads (part s at (length s)), draft_in s d)
@@ -91,11 +93,11 @@ unfolding no_names
 no-few = omega arith
 
 module _ (s : List ℕ) (at r k : ℕ) (d : Draft) (room : Room d) where
-  pub heads_done : (h : KissHeads) → step_of (part s at r) k (Said.Heads h) (draft_in s d) ≡ goes (draft_in s (record { heads = h; names = d.names; rows = d.rows; table = d.table }))
+  pub heads_done : (h : KissHeads) → step_of (part s at r) k (Ok (Said.Heads h)) (draft_in s d) ≡ goes (draft_in s (record { heads = h; names = d.names; rows = d.rows; table = d.table }))
   unfolding draft_in
   heads_done h = refl
 
-  pub reset-done : (p : Piece) → Inside (length (part s at r)) p → step_of (part s at r) k (Said.Reset p) (draft_in s d) ≡ goes (draft_in s (reset_to at p d))
+  pub reset-done : (p : Piece) → Inside (length (part s at r)) p → step_of (part s at r) k (Ok (Said.Reset p)) (draft_in s d) ≡ goes (draft_in s (reset_to at p d))
   unfolding draft_in reset_to
   reset-done p i =
       let e : names_in s (with_name no_names (moved_by at p)) ≡ piece_of (part s at r) p ∷ []
@@ -108,7 +110,7 @@ module _ (s : List ℕ) (at r k : ℕ) (d : Draft) (room : Room d) where
   reset-room p = record { names = more_room no_names (moved_by at p) no-names-room no-few; few = room.few; table = room.table }
 
   pub row_done : (row : KissRow) → Inside (length (part s at r)) row.states.present → Inside (length (part s at r)) row.states.next
-      → step_of (part s at r) k (Said.Row row) (draft_in s d) ≡ more_in s (more_of s k (moved_row at row) (with_line d.heads) d)
+      → step_of (part s at r) k (Ok (Said.Row row)) (draft_in s d) ≡ more_in s (more_of s k (moved_row at row) (with_line d.heads) d)
   unfolding moved_row
   row_done row i j =
       sym

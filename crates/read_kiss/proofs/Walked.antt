@@ -1,17 +1,16 @@
 -- What all the lines say is made of how far they come, and the names are those that they have come to.
-use mathlib.Core.Path.{◌≡◌, refl, sym, ap, ap₂, subst, ◌∙◌}
+use mathlib.Core.Path.{◌≡◌, refl, sym, ap, ◌∙◌}
 use mathlib.Core.Bool.{Bool, true, false, cond}
 use mathlib.Core.List.{List, [], ◌∷◌}
 use Prim.Native.Nat.{ℕ, ◌+◌}
 use native.Mathlib.Omega.{arith}
 use lib.ListN.{length}
 use Rattle.rules.specs.Text.{lines_of, mark_of}
-use Rattle.rules.specs.Listing.{rows_of, nothing, refused, conflict, or_else, judged}
+use Rattle.rules.specs.Listing.{nothing, refused}
 use Rattle.rules.specs.KissLines.{kiss_mark}
-use Rattle.rules.specs.Kiss.{Draft as Drafted, no_draft, KissStep, goes, ends, stops, kiss_placed, kiss_step, listing_of, disagreement, kiss_made, kiss_ended, kiss_unended, kiss_lines}
+use Rattle.rules.specs.Kiss.{Draft as Drafted, no_draft, KissStep, goes, ends, stops, kiss_placed, kiss_step, kiss_made, kiss_ended, kiss_unended, kiss_lines}
 use Rattle.rules.specs.KissAnswers.{names_from, kiss_names}
 use Rattle.rules.specs.declared.KissHeads.{KissHeads}
-use Rattle.rules.specs.declared.Listing.{Listing}
 use Rattle.rules.specs.declared.Reading.{Reading}
 use Rattle.rules.specs.declared.Verdict.{Verdict}
 use Rattle.rules.specs.declared.Refusal.{Refusal}

@@ -12,33 +12,30 @@ use Rattle.rules.specs.declared.Refusal.TheVariants.{BadLine, Place}
 use Rattle.read_names.specs.Names.{piece_of, no_names, with_name}
 use Rattle.read_names.specs.declared.Piece.{Piece}
 use Rattle.read_kiss_lines.specs.Says.{heads_line, reset_line, kiss_end_line, kiss_row_line}
-use Rattle.read_kiss_lines.specs.declared.heads.HeadsLine.{HeadsLine}
-use Rattle.read_kiss_lines.specs.declared.states.ResetLine.{ResetLine}
 use Rattle.read_kiss_lines.specs.declared.row.KissRow.{KissRow}
-use Rattle.read_kiss_lines.specs.declared.row.KissRowLine.{KissRowLine}
 use Rattle.read_kiss_rows.specs.declared.Draft.{Draft}
 use Rattle.read_kiss.specs.declared.says.Said.{Said}
 
 -- ---- what a line says
 
-abbrev pub heads_says : HeadsLine → Said
-heads_says (HeadsLine.Read h) = Said.Heads h
-heads_says (HeadsLine.Refused r) = Said.Refused r
+abbrev pub heads_says : Result KissHeads Refusal → Result Said Refusal
+heads_says (Ok h) = Ok (Said.Heads h)
+heads_says (Err r) = Err r
 
-abbrev pub reset_says : ResetLine → Said
-reset_says (ResetLine.Read p) = Said.Reset p
-reset_says (ResetLine.Refused r) = Said.Refused r
+abbrev pub reset_says : Result Piece Refusal → Result Said Refusal
+reset_says (Ok p) = Ok (Said.Reset p)
+reset_says (Err r) = Err r
 
-abbrev pub row_says : KissRowLine → Said
-row_says (KissRowLine.Read row) = Said.Row row
-row_says (KissRowLine.Refused r) = Said.Refused r
+abbrev pub row_says : Result KissRow Refusal → Result Said Refusal
+row_says (Ok row) = Ok (Said.Row row)
+row_says (Err r) = Err r
 
-abbrev pub end_says : Result Unit Refusal → Said
-end_says (Ok tt) = Said.End
-end_says (Err r) = Said.Refused r
+abbrev pub end_says : Result Unit Refusal → Result Said Refusal
+end_says (Ok tt) = Ok Said.End
+end_says (Err r) = Err r
 
 -- line k, in its place, behind so many names
-unfoldable pub placed_says : KissMark → ℕ → KissHeads → ℕ → List ℕ → Said
+unfoldable pub placed_says : KissMark → ℕ → KissHeads → ℕ → List ℕ → Result Said Refusal
 unfolding heads_line number_line reset_line kiss_end_line kiss_row_line
 placed_says KissMark.Inputs k h count l = heads_says (heads_line KissMark.Inputs k h (number_line l))
 placed_says KissMark.Outputs k h count l = heads_says (heads_line KissMark.Outputs k h (number_line l))
@@ -46,21 +43,21 @@ placed_says KissMark.States k h count l = heads_says (heads_line KissMark.States
 placed_says KissMark.Products k h count l = heads_says (heads_line KissMark.Products k h (number_line l))
 placed_says KissMark.Reset k h count l = reset_says (reset_line l)
 placed_says KissMark.End k h count l = end_says (kiss_end_line count l)
-placed_says KissMark.Unknown k h count l = Said.Refused BadLine
+placed_says KissMark.Unknown k h count l = Err BadLine
 placed_says KissMark.Row k h count l = row_says (kiss_row_line h.inputs h.outputs l)
 
-unfoldable pub line_says : ℕ → KissHeads → ℕ → List ℕ → Said
+unfoldable pub line_says : ℕ → KissHeads → ℕ → List ℕ → Result Said Refusal
 unfolding kiss_placed placed_says kiss_mark mark_of
-line_says k h count l = cond (kiss_placed (kiss_mark (mark_of l)) h) (placed_says (kiss_mark (mark_of l)) k h count l) (Said.Refused Place)
+line_says k h count l = cond (kiss_placed (kiss_mark (mark_of l)) h) (placed_says (kiss_mark (mark_of l)) k h count l) (Err Place)
 
 -- ---- what it does, where the line is l
 
-abbrev pub step_of : List ℕ → ℕ → Said → Drafted → KissStep
-step_of l k (Said.Heads h) d = goes (with_heads h d)
-step_of l k (Said.Reset p) d = goes (record { heads = with_reset d.heads; names = piece_of l p ∷ []; rows = d.rows; table = d.table })
-step_of l k (Said.Row row) d = row_does k d row.input (piece_of l row.states.present) (piece_of l row.states.next) row.outputs
-step_of l k Said.End d = ends
-step_of l k (Said.Refused r) d = stops r
+abbrev pub step_of : List ℕ → ℕ → Result Said Refusal → Drafted → KissStep
+step_of l k (Ok (Said.Heads h)) d = goes (with_heads h d)
+step_of l k (Ok (Said.Reset p)) d = goes (record { heads = with_reset d.heads; names = piece_of l p ∷ []; rows = d.rows; table = d.table })
+step_of l k (Ok (Said.Row row)) d = row_does k d row.input (piece_of l row.states.present) (piece_of l row.states.next) row.outputs
+step_of l k (Ok Said.End) d = ends
+step_of l k (Err r) d = stops r
 
 -- ---- in the text
 

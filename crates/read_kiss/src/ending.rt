@@ -15,12 +15,10 @@ fn cut_table(n: usize, table: [Row; rules::MOST_ROWS]) -> [Row; rules::MOST_ROWS
 {
     let all = sets::everyone_of(n);
     let mut next = table;
-    let mut i: usize = 0;
-    while i < rules::MOST_ROWS {
+    for i in 0..rules::MOST_ROWS {
         let mut row = table[i];
         row.group = row.group & all;
         next[i] = row;
-        i += 1;
     }
     next
 }

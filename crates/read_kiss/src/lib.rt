@@ -107,12 +107,12 @@ fn read_lines(s: &[u8]) -> Walk
     let mut end = read_pieces::cut(s, 0, b'\n');
     while end < s.len() {
         let said = says::line_said(k, d.heads, d.names.count, &s[at..end]);
+        let Ok(step) = said else {
+            let verdict = Verdict::Refused(said.err().unwrap_or(Refusal::BadLine), k);
+            return Walk { verdict, draft: d };
+        };
         let next = end + 1;
-        match said {
-            Said::Refused(r) => {
-                let verdict = Verdict::Refused(r, k);
-                return Walk { verdict, draft: d };
-            }
+        match step {
             Said::End => {
                 let verdict = ending::after_end(k, &s[next..]);
                 return Walk { verdict, draft: d };

@@ -1,4 +1,6 @@
 -- `read_kiss::read_lines` meets its contract: the lines from number k on, behind those that made d, say what all the lines say.
+use Rattle.std.specs.Prelude.{Result, Ok}
+use Rattle.rules.specs.declared.Refusal.{Refusal}
 use mathlib.Core.List.{List}
 use Prim.Native.Nat.{ℕ}
 use lib.ListN.{length-take}
@@ -32,7 +34,7 @@ use Rattle.read_kiss.proofs.read_lines.Goals.{After-line_said-said, in-Heads, in
 use Rattle.read_kiss.proofs.read_lines.Goals as goal
 
 -- a line that says x: what stands behind it decides
-all_lines : (c : After-line_said-said) {x : Said} → c.line_said-said.result ≡ x
+all_lines : (c : After-line_said-said) {x : Result Said Refusal} → c.line_said-said.result ≡ x
     → behind (step_of (part c.args.s.now c.loop-end.at c.loop-end.end) c.loop-end.k x (draft_in c.args.s.now c.loop-end.d)) c.loop-end.k
     (draft_in c.args.s.now c.loop-end.d) (lines_of (drop (c.loop-end.end + 1) c.args.s.now))
     ≡ walked 1 no_draft (lines_of c.args.s.now)
@@ -59,7 +61,7 @@ Next c u =
     × Room u
     × (u.heads.lines < c.loop-end.k + 1)
 
-heads-next : (c : After-line_said-said) (h : KissHeads) → c.line_said-said.result ≡ Said.Heads h
+heads-next : (c : After-line_said-said) (h : KissHeads) → c.line_said-said.result ≡ Ok (Said.Heads h)
     → Next c (record { heads = h; names = c.loop-end.d.names; rows = c.loop-end.d.rows; table = c.loop-end.d.table })
 heads-next c h e =
     let l = c.loop-end in
@@ -71,7 +73,7 @@ heads-next c h e =
       omega (arith, n, l.invariant.4),
     )
 
-reset-next : (c : After-line_said-said) (p : Piece) → c.line_said-said.result ≡ Said.Reset p → Next c (reset_to c.loop-end.at p c.loop-end.d)
+reset-next : (c : After-line_said-said) (p : Piece) → c.line_said-said.result ≡ Ok (Said.Reset p) → Next c (reset_to c.loop-end.at p c.loop-end.d)
 unfolding reset_to
 reset-next c p e =
     let l = c.loop-end in
@@ -83,7 +85,7 @@ reset-next c p e =
       omega (arith, l.invariant.4),
     )
 
-row_next : (c : After-line_said-said) (row : KissRow) (m : More) → c.line_said-said.result ≡ Said.Row row
+row_next : (c : After-line_said-said) (row : KissRow) (m : More) → c.line_said-said.result ≡ Ok (Said.Row row)
     → m ≡ more_of c.args.s.now c.loop-end.k (moved_row c.loop-end.at row) (with_line c.loop-end.d.heads) c.loop-end.d → m.full ≡ false → Next c m.draft
 row_next c row m e q f =
     let l = c.loop-end in
@@ -109,25 +111,27 @@ loop-end-init c =
       omega (arith, (none-room b).1),
     )
 
-pub returns-in-Refused : goal.returns-in-Refused
-returns-in-Refused c =
+pub returns-in_default : goal.returns-in_default
+returns-in_default c =
     let l = c.loop-end in
     let s = c.args.s.now in
-    walks s l.d l.invariant.3 (all_lines (goal.at.returns-in-Refused c).After-line_said-said c.in-Refused.is)
+    let why : c.unwrap_or.result ≡ c.in_default.field-0 = c.unwrap_or.ensures ∙ rw (c.err.ensures.value, c.in_default.is) in
+    walks s l.d l.invariant.3
+    (ap (λ (r : Refusal). (Verdict.Refused r l.k, draft_in s l.d)) why ∙ all_lines (goal.at.returns-in_default c).After-line_said-said c.in_default.is)
 
 pub returns-in-End : goal.returns-in-End
 returns-in-End c =
     let l = c.loop-end in
     let s = c.args.s.now in
     walks s l.d l.invariant.3
-    (ap (λ (v : Verdict). (v, draft_in s l.d)) (c.after_end-verdict.ensures ∙ end_is l.k s (l.end + 1)) ∙ all_lines (goal.at.returns-in-End c).After-line_said-said c.in-End.is)
+    (ap (λ (v : Verdict). (v, draft_in s l.d)) (c.after_end-verdict.ensures ∙ end_is l.k s (l.end + 1)) ∙ all_lines (goal.at.returns-in-End c).After-line_said-said (c.in-Ok.is ∙ ap Ok c.in-End.is))
 
 pub with_reset-d-requires : goal.with_reset-d-requires
-with_reset-d-requires c = places-fit (goal.at.with_reset-d-requires c).After-line_said-said _ (says-within _ _ _ _ (sym c.in-Reset.is ∙ c.line_said-said.ensures))
+with_reset-d-requires c = places-fit (goal.at.with_reset-d-requires c).After-line_said-said _ (says-within _ _ _ _ (sym (c.in-Ok.is ∙ ap Ok c.in-Reset.is) ∙ c.line_said-said.ensures))
 
 pub row_added-more-requires : goal.row_added-more-requires
 row_added-more-requires c =
-    let w = says-within _ _ _ _ (sym c.in-Row.is ∙ c.line_said-said.ensures) in
+    let w = says-within _ _ _ _ (sym (c.in-Ok.is ∙ ap Ok c.in-Row.is) ∙ c.line_said-said.ensures) in
     let p = places-fit (goal.at.row_added-more-requires c).After-line_said-said _ w.0 in
     let n = places-fit (goal.at.row_added-more-requires c).After-line_said-said _ w.1 in
     (record { present_start = p.0; present_end = p.1; next_start = n.0; next_end = n.1 }, omega (arith, c.loop-end.invariant.4, c.loop-end.invariant.1))
@@ -136,19 +140,19 @@ pub returns-then-more : goal.returns-then-more
 returns-then-more c =
     let l = c.loop-end in
     let s = c.args.s.now in
-    let w = says-within _ _ _ _ (sym c.in-Row.is ∙ c.line_said-said.ensures) in
+    let w = says-within _ _ _ _ (sym (c.in-Ok.is ∙ ap Ok c.in-Row.is) ∙ c.line_said-said.ensures) in
     let full = row_done s l.at l.end l.k l.d l.invariant.3 _ w.0 w.1 ∙ ap (more_in s) (sym c.row_added-more.ensures) ∙ more-full s _ c.if-more.true in
     walks s l.d l.invariant.3
-    (ap (λ (y : KissStep). behind y l.k (draft_in s l.d) (lines_of (drop (l.end + 1) s))) (sym full) ∙ all_lines (goal.at.returns-then-more c).After-line_said-said c.in-Row.is)
+    (ap (λ (y : KissStep). behind y l.k (draft_in s l.d) (lines_of (drop (l.end + 1) s))) (sym full) ∙ all_lines (goal.at.returns-then-more c).After-line_said-said (c.in-Ok.is ∙ ap Ok c.in-Row.is))
 
 pub loop-end-preserved : goal.loop-end-preserved
 loop-end-preserved c =
     let l = c.loop-end in
     let d = (goal.at.loop-end-preserved c).After-line_said-said in
-    let next : Next d c.match-said.d = elim c.match-said.branch [
-      | in-Heads w ↦ subst (Next d) (sym w.d-is) (heads-next d _ w.in-Heads.is)
-      | in-Reset w ↦ subst (Next d) (sym w.d-is) (subst (Next d) (sym w.with_reset-d.ensures) (reset-next d _ w.in-Reset.is))
-      | in-Row+else-more w ↦ subst (Next d) (sym w.d-is) (row_next d _ w.row_added-more.result w.in-Row.is w.row_added-more.ensures w.if-more.false)
+    let next : Next d c.match-step.d = elim c.match-step.branch [
+      | in-Heads w ↦ subst (Next d) (sym w.d-is) (heads-next d _ (c.in-Ok.is ∙ ap Ok w.in-Heads.is))
+      | in-Reset w ↦ subst (Next d) (sym w.d-is) (subst (Next d) (sym w.with_reset-d.ensures) (reset-next d _ (c.in-Ok.is ∙ ap Ok w.in-Reset.is)))
+      | in-Row+else-more w ↦ subst (Next d) (sym w.d-is) (row_next d _ w.row_added-more.result (c.in-Ok.is ∙ ap Ok w.in-Row.is) w.row_added-more.ensures w.if-more.false)
     ]
     in
     (cut_of _ _ (l.end + 1) (omega arith) c.cut-end-in-loop-end.ensures, omega arith, next.0, next.1, next.2)
