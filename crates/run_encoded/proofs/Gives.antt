@@ -8,13 +8,13 @@ use native.Mathlib.Numerals.{add-one}
 use native.Mathlib.Omega.{arith}
 use lib.Dec.{eqb, leb}
 use lib.Bits.{bit_and, bit_or}
-use lib.ListN.{length, take, get_or, set, replicate, length-map, length-set, length-replicate}
+use lib.ListN.{length, take, get_or, set, length-map, length-set, length-replicate}
 use lib.Seq.{take-suc-set}
-use Rattle.sets.specs.Sets.{has, only, every, everyone, states_from}
+use Rattle.sets.specs.Sets.{has, only, every, states_from}
 use Rattle.sets.proofs.Members.{has-lt, has-or, has-and, has-none, has-zero, has-suc}
 use Rattle.rules.specs.Limits.{most_lines}
 use Rattle.rules.specs.Text.{bytes, digit, dash, nought, one, lines_of, field_at, split, decimal}
-use Rattle.rules.specs.Listing.{no_row, all_rows, some}
+use Rattle.rules.specs.Listing.{all_rows, some}
 use Rattle.rules.specs.Code.{code_of}
 use Rattle.rules.specs.Cover.{face_at, face, input_at, cover_row, is_left_out, printed_rows, cover, takes, vector, line_fires}
 use Rattle.rules.specs.Meaning.{cover_says}
@@ -24,7 +24,7 @@ use Rattle.rules.specs.declared.Row.{Row}
 use Rattle.rules.specs.declared.Listing.{Listing}
 use Rattle.rules.proofs.Some.{some-append, some-like}
 use Rattle.rules.proofs.Most.{states-length}
-use Rattle.rules.proofs.Fires.{output_side, cover-fields, takes-append, inputs-take, part-has}
+use Rattle.rules.proofs.Fires.{cover-fields, takes-append, inputs-take, part-has}
 use Rattle.rules.proofs.Printed.{printed-none, printed-out, printed-in}
 use Rattle.rules.proofs.CoverLines.{cover_bodies, cover-lines}
 use Rattle.rules.proofs.Agreeing.{dot-fires, bit-place}
@@ -35,7 +35,7 @@ use Rattle.run_inputs.specs.Inputs.{takes_input}
 use Rattle.run_encoded.specs.Terms.{some_at, all_at, mask_of, members, term_of, no_term, no_terms, terms_with, terms_by, takes_code, term_fires, code_with, code_by}
 use Rattle.run_encoded.specs.declared.Term.{Term}
 use Rattle.run_encoded.specs.declared.Terms.{Terms}
-use Rattle.run_encoded.proofs.Steps.{some-le, all-le, terms-by}
+use Rattle.run_encoded.proofs.Steps.{some-le, all-le}
 
 -- ---- a mask, digit by digit
 

@@ -1,7 +1,7 @@
 -- The masks of a row, the rows and the next code, step by step as loops have them.
-use mathlib.Core.Path.{◌≡◌, refl, sym, ap, ◌∙◌}
-use mathlib.Core.Bool.{Bool, true, false, ◌&&◌, ◌||◌, not, cond}
-use mathlib.Core.List.{List, [], ◌∷◌, ◌++◌}
+use mathlib.Core.Path.{◌≡◌, refl, ap, ◌∙◌}
+use mathlib.Core.Bool.{Bool, true, false, ◌&&◌, not, cond}
+use mathlib.Core.List.{List, [], ◌∷◌}
 use Prim.Native.Nat.{ℕ, zero, suc, ◌+◌, ◌*◌, ◌-◌, ◌^◌, ◌≤◌, ◌<◌, min, max}
 use native.Mathlib.Nat.{lt_of_lt_of_le, pow-suc}
 use native.Mathlib.Numerals.{add-one}
@@ -9,10 +9,11 @@ use native.Mathlib.Omega.{arith}
 use lib.Dec.{eqb, leb}
 use lib.Pow.{pow_mono}
 use lib.Bits.{bit_and, bit_or}
-use borrow.Author.Tests.{eq-eqb, ne_eqb, leb-true, leb-false, le-leb, lt-leb, lt-ltb, le-ltb}
-use lib.ListN.{length, take, drop, get_or, set, length-drop, drop_of_length-le}
+use mir.Val.{bool_byte}
+use borrow.Author.Tests.{le-leb, lt-leb, lt-ltb}
+use lib.ListN.{length, drop, get_or, set, drop_of_length-le}
 use lib.Seq.{drop-cons}
-use Rattle.sets.specs.Sets.{has, only, every, everyone}
+use Rattle.sets.specs.Sets.{has, only, everyone}
 use Rattle.sets.proofs.Every.{every-same}
 use Rattle.sets.proofs.Members.{has-lt, has-and, has-or, has-not, has-high}
 use Rattle.rules.specs.Limits.{most_states, most_bits}
@@ -23,31 +24,11 @@ use Rattle.rules.specs.declared.Head.{Head}
 use Rattle.rules.specs.declared.Row.{Row}
 use Rattle.rules.specs.declared.Listing.{Listing}
 use Rattle.sharing.proofs.Inputs.{none-low}
-use Rattle.write_faces.proofs.Masks.{below-wide}
-use Rattle.run_inputs.specs.Inputs.{takes_input}
+use Rattle.write_faces.proofs.Masks.{below-least}
 use Rattle.run_inputs.proofs.Masks.{every-least}
-use Rattle.run_encoded.specs.Terms.{some_at, all_at, mask_of, members, term_of, terms_with, terms_by, takes_code, term_fires, code_with, code_by, no_term, no_terms, terms_for, code_for}
+use Rattle.run_encoded.specs.Terms.{some_at, all_at, mask_of, members, term_of, terms_with, terms_by, takes_code, code_with, code_by, no_term, no_terms, terms_for, code_for}
 use Rattle.run_encoded.specs.declared.Term.{Term}
 use Rattle.run_encoded.specs.declared.Terms.{Terms}
-
--- ---- a digit
-
-module _ (m b : ℕ) where
-  pub some-none : bit_and b m ≡ 0 → 0 ≡ some_at m b
-  unfolding some_at
-  some-none e = rw (eq-eqb _ 0 e)
-
-  pub some-some : (bit_and b m ≡ 0 → ⊥) → 1 ≡ some_at m b
-  unfolding some_at
-  some-some o = rw (ne_eqb _ 0 o)
-
-  pub all-every : bit_and b m ≡ m → 1 ≡ all_at m b
-  unfolding all_at
-  all-every e = rw (eq-eqb _ m e)
-
-  pub all-not : (bit_and b m ≡ m → ⊥) → 0 ≡ all_at m b
-  unfolding all_at
-  all-not o = rw (ne_eqb _ m o)
 
 -- ---- a mask, bit by bit from the last
 
@@ -64,20 +45,6 @@ unfolding all_at
 all-le m b = digit-le (eqb (bit_and b m) m)
 
 module _ (f : ℕ → ℕ) (digits : (b : ℕ) → f b ≤ 1) where
-  mask_lt : (bits : List ℕ) → mask_of f bits < 2 ^ length bits
-  unfolding mask_of
-  mask_lt [] = omega arith
-  mask_lt (b ∷ bs) = omega (arith, mask_lt bs, digits b, pow-suc 2 (length bs))
-
-  pub mask-few : (n : ℕ) (bits : List ℕ) → length bits ≤ n → mask_of f bits < 2 ^ n
-  mask-few n bits h = lt_of_lt_of_le (mask_lt bits) (pow_mono h)
-
-  -- one bit more has room
-  pub mask-room : (bits : List ℕ) (k : ℕ) {m : ℕ} → m ≡ mask_of f (drop k bits) → 0 < k → length bits ≤ most_bits → m * 2 + 1 < 2 ^ 64
-  mask-room bits k e p h =
-      let s : mask_of f (drop k bits) < 2 ^ 63 = mask-few 63 (drop k bits) (rw length-drop (omega arith)) in
-      omega arith
-
   mask_step : (bits : List ℕ) (k : ℕ) → k < length bits → mask_of f (drop k bits) ≡ mask_of f (drop (k + 1) bits) * 2 + f (get_or bits k 0)
   unfolding mask_of
   mask_step bits k h = rw (add-one, drop-cons bits k 0 h) refl
@@ -91,16 +58,24 @@ module _ (f : ℕ → ℕ) (digits : (b : ℕ) → f b ≤ 1) where
   unfolding mask_of
   mask_end bits = rw (drop_of_length-le bits {i = length bits} (omega arith))
 
+-- a mask of the bits from k on has room for one bit more, as code has the digit of what is told
+pub mask-room : (n k m : ℕ) → m < 2 ^ (n - k) → 0 < k → n ≤ most_bits → m * 2 + 1 < 2 ^ 64
+mask-room n k m s p h =
+    let most : n - k ≤ 63 = omega arith in
+    let few : m < 2 ^ 63 = lt_of_lt_of_le s (pow_mono most) in
+    omega arith
+
+pub mask-more : (n k m d : ℕ) → m < 2 ^ (n - k) → 0 < k → k ≤ n → d ≤ 1 → m * 2 + d < 2 ^ (n - (k - 1))
+mask-more n k m d s p h l = let e : n - (k - 1) ≡ suc (n - k) = omega arith in rw e (omega (arith, pow-suc 2 (n - k)))
+
+pub told-digit : (b : Bool) → bool_byte b ≡ digit b
+told-digit true = refl
+told-digit false = refl
+
 -- ---- a row
 
 pub members-here : (h : Head) (r : Row) {m : ℕ} → r.group < 2 ^ 64 → m ≡ everyone (min h.states 64) → bit_and r.group m ≡ members h r
-members-here h r l e = ap (bit_and r.group) e ∙ go (leb h.states 64) refl
-  where
-    go : (b : Bool) → leb h.states 64 ≡ b → bit_and r.group (everyone (min h.states 64)) ≡ members h r
-    go true q = let same : min h.states 64 ≡ h.states = omega (arith, leb-true h.states 64 q) in ap (λ (n : ℕ). bit_and r.group (everyone n)) same
-    go false q =
-        let same : min h.states 64 ≡ 64 = omega (arith, leb-false h.states 64 q) in
-        ap (λ (n : ℕ). bit_and r.group (everyone n)) same ∙ sym (below-wide 64 r.group l (omega arith)) ∙ below-wide h.states r.group l (omega (arith, leb-false h.states 64 q))
+members-here h r l e = ap (bit_and r.group) e ∙ below-least h.states r.group l
 
 pub term_made : (h : Head) (bits : List ℕ) (r : Row) {g u a n : ℕ} → g ≡ members h r → u ≡ mask_of (some_at g) bits → a ≡ mask_of (all_at g) bits → n ≡ mask_of (some_at r.next) bits
     → ◌≡◌ {A = Term} (record { input = r.input; low = bit_and u a; high = u; next = n }) (term_of h bits r)
@@ -149,14 +124,6 @@ pub code-for : (bits : List ℕ) (s : ℕ) → length bits ≤ most_bits → s <
 unfolding code_for
 code-for bits s h l = rw (le-leb (length bits) most_bits h, lt-ltb s most_states l)
 
-pub code-past : (bits : List ℕ) (s : ℕ) → length bits ≤ most_bits → most_states ≤ s → code_for bits s ≡ 0
-unfolding code_for
-code-past bits s h l = rw (le-leb (length bits) most_bits h, le-ltb s most_states l)
-
-pub code-beyond : (bits : List ℕ) (s : ℕ) → most_bits < length bits → code_for bits s ≡ 0
-unfolding code_for
-code-beyond bits s h = rw (lt-leb (length bits) most_bits h)
-
 -- ---- a face and a code
 
 one_way : (l d u : ℕ) → l < 2 → d < 2 → u < 2 → eqb (max (min l (1 - d)) (min d (1 - u))) 0 ≡ (leb l d && leb d u)
@@ -194,13 +161,6 @@ code-mask w q code hl hc hu e =
 -- ---- the next code
 
 module _ (i w x code : ℕ) where
-  pub with_each : (given : ℕ) (q : Term) {a b : Bool} → takes_input i q.input x ≡ a → takes_code w q code ≡ b → code_with i w x code given q ≡ cond (a && b) (bit_or given q.next) given
-  unfolding code_with term_fires
-  with_each given q e f = rw (e, f)
-
-  pub with-neither : (given : ℕ) (q : Term) → takes_input i q.input x ≡ false → code_with i w x code given q ≡ given
-  with-neither given q e = with_each given q e refl
-
   pub code_here : (given : ℕ) (qs : List Term) (k : ℕ) → k < length qs → {g : ℕ} → g ≡ code_with i w x code given (get_or qs k no_term) → code_by i w x code given (drop k qs) ≡ code_by i w x code g (drop (k + 1) qs)
   unfolding code_by
   code_here given qs k h e = rw (add-one, drop-cons qs k no_term h, e) refl

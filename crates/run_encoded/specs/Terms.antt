@@ -1,5 +1,5 @@
 -- The rows of a cover as masks of bits, and the next code that they give, one after the other.
-use Rattle.std.specs.Prelude.{Bool, true, false, ◌&&◌, not, cond, List, [], ◌∷◌, ℕ, ◌+◌, ◌*◌, eqb, leb, ltb, length, set, replicate}
+use Rattle.std.specs.Prelude.{Bool, ◌&&◌, not, cond, List, [], ◌∷◌, ℕ, ◌+◌, ◌*◌, eqb, leb, ltb, length, set, replicate}
 use Rattle.std.specs.Int.Bits.{bit_and, bit_or}
 use Rattle.sets.specs.Sets.{has, only, every, everyone}
 use Rattle.rules.specs.Limits.{most_states, most_bits, most_lines}

@@ -2,7 +2,8 @@
 // is that of bit k.
 #![tactic(auto)]
 
-ghost use Rattle.std.specs.Prelude.{◌≡◌, ◌≤◌, ◌<◌, length, take};
+ghost use Rattle.std.specs.Prelude.{◌≡◌, Bool, ℕ, ◌^◌, ◌≤◌, ◌<◌, length, take};
+ghost use Rattle.rules.specs.Text.{digit};
 ghost use Rattle.rules.specs.Limits.{most_bits, most_lines};
 ghost use Rattle.rules.specs.Listing.{all_rows};
 ghost use Rattle.run_encoded.specs.Terms.{some_at, all_at, mask_of, term_of, no_terms, terms_with, terms_by, code_for, terms_for, takes_code, code_with, code_by};
@@ -28,24 +29,17 @@ pub struct Terms {
     pub table: [Term; MOST_TERMS],
 }
 
-// 1 where some state of m has value 1 in the bit b.
-fn some_digit(b: u64, m: u64) -> u64
-    ensures { result ≡ some_at m b }
+// The mask of the bits for which `holds` is true: digit k is that of bit k.
+fn mask_where<F: Fn(u64) -> bool>(bits: &[u64], holds: F) -> u64
+    requires few { length bits.now ≤ most_bits }
+    requires callable { F.IsAlwaysCallable holds }
+    ensures { (p : ℕ → Bool) → ((b : ℕ) (r : Bool) → b < 2 ^ 64 → F.post holds b r → r ≡ p b) → result ≡ mask_of (λ b. digit (p b)) bits.now }
 {
-    if b & m == 0 {
-        return 0;
+    let mut mask = 0;
+    for k in (0..bits.len()).rev() {
+        mask = mask * 2 + holds(bits[k]) as u64;
     }
-    1
-}
-
-// 1 where every state of m has value 1 in the bit b.
-fn all_digit(b: u64, m: u64) -> u64
-    ensures { result ≡ all_at m b }
-{
-    if b & m == m {
-        return 1;
-    }
-    0
+    mask
 }
 
 // The bits in which some state of m has value 1.
@@ -53,13 +47,7 @@ fn some_mask(bits: &[u64], m: u64) -> u64
     requires { length bits.now ≤ most_bits }
     ensures { result ≡ mask_of (some_at m) bits.now }
 {
-    let mut mask: u64 = 0;
-    let mut k = bits.len();
-    while 0 < k {
-        k -= 1;
-        mask = mask * 2 + some_digit(bits[k], m);
-    }
-    mask
+    mask_where(bits, |b| b & m != 0)
 }
 
 // The bits in which every state of m has value 1.
@@ -67,23 +55,14 @@ fn all_mask(bits: &[u64], m: u64) -> u64
     requires { length bits.now ≤ most_bits }
     ensures { result ≡ mask_of (all_at m) bits.now }
 {
-    let mut mask: u64 = 0;
-    let mut k = bits.len();
-    while 0 < k {
-        k -= 1;
-        mask = mask * 2 + all_digit(bits[k], m);
-    }
-    mask
+    mask_where(bits, |b| b & m == m)
 }
 
 // The code of the state s; no digit of more bits, or of a state past them, than there can be.
 pub fn code_of(bits: &[u64], s: usize) -> u64
     ensures { result ≡ code_for bits.now s }
 {
-    if rules::MOST_BITS < bits.len() {
-        return 0;
-    }
-    if rules::MOST_STATES <= s {
+    if rules::MOST_BITS < bits.len() || rules::MOST_STATES <= s {
         return 0;
     }
     some_mask(bits, 1 << s)
@@ -98,9 +77,8 @@ fn term_of(head: Head, bits: &[u64], row: Row) -> Term
     let high = some_mask(bits, group);
     let low = high & all_mask(bits, group);
     let next = some_mask(bits, row.next);
-    let input = row.input;
     Term {
-        input,
+        input: row.input,
         low,
         high,
         next,
@@ -126,17 +104,15 @@ fn terms_with(head: Head, bits: &[u64], terms: Terms, row: Row) -> Terms
 fn no_terms() -> Terms
     ensures { result ≡ no_terms }
 {
-    let none = Pattern { ones: 0, dashes: 0 };
     let term = Term {
-        input: none,
+        input: Pattern { ones: 0, dashes: 0 },
         low: 0,
         high: 0,
         next: 0,
     };
-    let table = [term; MOST_TERMS];
     Terms {
         count: 0,
-        table: table,
+        table: [term; MOST_TERMS],
     }
 }
 
@@ -145,16 +121,9 @@ fn terms_in(t: Listing, bits: &[u64]) -> Terms
     requires { length bits.now ≤ most_bits }
     ensures { result ≡ terms_by t.head bits.now no_terms (all_rows t) }
 {
-    let n = sets::least(t.rows, rules::MOST_ROWS);
-    let all = write_rows::row_count(t.head, t.rows);
     let mut terms = no_terms();
-    let mut k: usize = 0;
-    while k < all {
-        let place = sets::least(k, rules::MOST_ROWS - 1);
-        let state = write_rows::state_at(n, k);
-        let row = write_rows::row_at(n, k, t.table[place], t.said[state]);
-        terms = terms_with(t.head, bits, terms, row);
-        k += 1;
+    for k in 0..write_rows::row_count(t.head, t.rows) {
+        terms = terms_with(t.head, bits, terms, write_rows::row_of(&t, k));
     }
     terms
 }
@@ -181,14 +150,11 @@ fn takes_code(width: usize, q: Term, code: u64) -> bool
 fn code_with(inputs: usize, width: usize, x: u64, code: u64, given: u64, q: Term) -> u64
     ensures { result ≡ code_with inputs width x code given q }
 {
-    let input = q.input;
-    if !run_inputs::takes_input(inputs, input, x) {
-        return given;
+    if run_inputs::takes_input(inputs, q.input, x) && takes_code(width, q, code) {
+        given | q.next
+    } else {
+        given
     }
-    if !takes_code(width, q, code) {
-        return given;
-    }
-    given | q.next
 }
 
 // The next code that the rows give that fire at the input vector x and the present code.
@@ -197,10 +163,8 @@ pub fn code_after(terms: Terms, inputs: usize, width: usize, x: u64, code: u64) 
 {
     let n = sets::least(terms.count, MOST_TERMS);
     let mut given: u64 = 0;
-    let mut k: usize = 0;
-    while k < n {
-        given = code_with(inputs, width, x, code, given, terms.table[k]);
-        k += 1;
+    for &q in &terms.table[..n] {
+        given = code_with(inputs, width, x, code, given, q);
     }
     given
 }

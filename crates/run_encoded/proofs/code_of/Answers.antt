@@ -1,16 +1,16 @@
 -- `run_encoded::code_of` meets its contract.
 use mathlib.Core.Path.{sym, ap, ◌∙◌}
 use Prim.Native.Nat.{ℕ}
+use Rattle.std.proofs.Common.{arith}
+use Rattle.std.proofs.lemmas.Grind.{common_steps}
 use Rattle.sets.proofs.Members.{shl_one}
-use Rattle.run_encoded.specs.Terms.{some_at, mask_of}
-use Rattle.run_encoded.proofs.Steps.{code-for, code-past, code-beyond}
+use Rattle.run_encoded.specs.Terms.{some_at, mask_of, code_for}
+use Rattle.run_encoded.proofs.Steps.{code-for}
 use Rattle.run_encoded.proofs.code_of.Goals as goal
 
 pub returns-then-bits-gt-MOST_BITS : goal.returns-then-bits-gt-MOST_BITS
-returns-then-bits-gt-MOST_BITS c = sym (code-beyond _ _ c.if-bits-gt-MOST_BITS.true)
-
-pub returns-then-s-ge-MOST_STATES : goal.returns-then-s-ge-MOST_STATES
-returns-then-s-ge-MOST_STATES c = sym (code-past _ _ c.if-bits-gt-MOST_BITS.false c.if-s-ge-MOST_STATES.true)
+unfolding code_for
+returns-then-bits-gt-MOST_BITS c = grind (arith, common_steps)
 
 pub returns : goal.returns
 returns c =

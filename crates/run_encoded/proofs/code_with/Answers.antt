@@ -1,17 +1,13 @@
 -- `run_encoded::code_with` meets its contract.
-use mathlib.Core.Path.{sym, ◌∙◌}
-use Rattle.run_encoded.proofs.Steps.{with_each, with-neither}
+use Rattle.std.proofs.Common.{arith}
+use Rattle.std.proofs.lemmas.Grind.{common_steps}
+use Rattle.run_encoded.specs.Terms.{term_fires, code_with}
 use Rattle.run_encoded.proofs.code_with.Goals as goal
 
-pub returns-then-not-takes_input : goal.returns-then-not-takes_input
-returns-then-not-takes_input c = sym (with-neither _ _ _ _ _ _ (sym c.takes_input.ensures ∙ c.if-not-takes_input.true))
+pub returns-then-takes_code : goal.returns-then-takes_code
+unfolding code_with term_fires
+returns-then-takes_code c = grind (arith, common_steps)
 
-pub returns-then-not-takes_code : goal.returns-then-not-takes_code
-returns-then-not-takes_code c =
-    let a = c.args in
-    sym (with_each a.inputs a.width a.x a.code a.given a.q (sym c.takes_input.ensures ∙ c.if-not-takes_input.false) (sym c.takes_code.ensures ∙ c.if-not-takes_code.true))
-
-pub returns : goal.returns
-returns c =
-    let a = c.args in
-    sym (with_each a.inputs a.width a.x a.code a.given a.q (sym c.takes_input.ensures ∙ c.if-not-takes_input.false) (sym c.takes_code.ensures ∙ c.if-not-takes_code.false))
+pub returns-else-takes_input : goal.returns-else-takes_input
+unfolding code_with term_fires
+returns-else-takes_input c = grind (arith, common_steps)
