@@ -1,5 +1,5 @@
 -- The first 65,536 bytes of codes decide them: no more than 64 lines of 72 bytes are good, and a longer text is refused at a line that they show.
-use Rattle.std.specs.Prelude.{Some, None}
+use Rattle.std.specs.Prelude.{Some, None, Ok}
 use mathlib.Core.Path.{◌≡◌, refl, sym, ap, ◌∙◌}
 use mathlib.Core.Logic.{◌⊎◌, inl, inr}
 use mathlib.Core.Bool.{Bool, true, false, ◌&&◌, ◌||◌, not, cond}
@@ -13,14 +13,15 @@ use borrow.Author.Tests.{eqb-true, leb-true, ltb-true, ltb-false}
 use Rattle.sets.proofs.Every.{and_first, and_second}
 use Rattle.rules.specs.Limits.{most_states, most_bits, most_bytes}
 use Rattle.rules.specs.Text.{bytes, lf, space, dash, nought, one, push, same, split, lines_of, fields_of, field_at, mark_of, sized, set_of, digits_of, numeral_of}
-use Rattle.rules.specs.CheckTexts.{code_fits, width_in, is_number, code_good, codes_refused, codes_read, with_code, codes_from, codes_reading}
+use Rattle.rules.specs.CheckTexts.{code_fits, width_in, is_number, code_good, with_code, codes_from, codes_reading, CodesReading}
 use Rattle.rules.specs.declared.CodeTable.{CodeTable}
-use Rattle.rules.specs.declared.CodesReading.{CodesReading}
 use Rattle.rules.proofs.Fields.{Without, none, more, split-part}
 use Rattle.rules.proofs.Known.{same-eq}
 use Rattle.read_pieces.proofs.Laws.{split-some}
 use Rattle.read_pieces.proofs.Nothing.{some-behind}
 use Rattle.run_lines.proofs.Lengths.{first-line}
+use Rattle.rules.specs.Refusals.{refused}
+use Rattle.rules.specs.declared.Refusal.TheVariants.{BadLine}
 
 -- ---- how long a line is by its fields
 
@@ -107,37 +108,37 @@ lined (x ∷ xs) = go (eqb x lf) refl (lined xs)
 
 module _ (s k : ℕ) (c : CodeTable) (l x : List ℕ) where
   abbrev by-line : Bool → CodesReading
-  by-line b = elim b [ true ↦ codes_from (s + 1) k (with_code s (set_of one (field_at l 2)) c) (lines_of x) | false ↦ codes_refused (s + 1) ]
+  by-line b = elim b [ true ↦ codes_from (s + 1) k (with_code s (set_of one (field_at l 2)) c) (lines_of x) | false ↦ refused BadLine (s + 1) ]
 
   line_step : codes_from s (suc k) c (l ∷ lines_of x) ≡ by-line (code_good c.width s l)
   unfolding codes_from
   line_step = go (lines_of x) (split-some lf x)
     where
       go : (ls : List (List ℕ)) → 1 ≤ length ls
-          → codes_from s (suc k) c (l ∷ ls) ≡ elim (code_good c.width s l) [ true ↦ codes_from (s + 1) k (with_code s (set_of one (field_at l 2)) c) ls | false ↦ codes_refused (s + 1) ]
+          → codes_from s (suc k) c (l ∷ ls) ≡ elim (code_good c.width s l) [ true ↦ codes_from (s + 1) k (with_code s (set_of one (field_at l 2)) c) ls | false ↦ refused BadLine (s + 1) ]
       go [] h = absurd (omega arith)
       go (m ∷ ms) h = refl
 
 -- a text that is not over is refused
-more-refused : (s : ℕ) (c : CodeTable) (a : List ℕ) → 0 < length a → codes_from s 0 c (lines_of a) ≡ codes_refused (s + 1)
+more-refused : (s : ℕ) (c : CodeTable) (a : List ℕ) → 0 < length a → codes_from s 0 c (lines_of a) ≡ refused BadLine (s + 1)
 unfolding codes_from
-more-refused s c a some = ap (λ (b : Bool). elim b as (λ x. CodesReading) [ true ↦ codes_read c | false ↦ codes_refused (s + 1) ]) (some-behind a (λ z. omega arith))
+more-refused s c a some = ap (λ (b : Bool). elim b as (λ x. CodesReading) [ true ↦ Ok c | false ↦ refused BadLine (s + 1) ]) (some-behind a (λ z. omega arith))
 
 -- and so is a first line that does not end in what is seen
-long-refused : (s k : ℕ) (c : CodeTable) (a z : List ℕ) → Without lf a → 72 < length a → codes_from s k c (lines_of (a ++ z)) ≡ codes_refused (s + 1)
+long-refused : (s k : ℕ) (c : CodeTable) (a z : List ℕ) → Without lf a → 72 < length a → codes_from s k c (lines_of (a ++ z)) ≡ refused BadLine (s + 1)
 unfolding codes_from
 long-refused s zero c a z w far = more-refused s c (a ++ z) (omega (arith, length-append a z))
 long-refused s (suc k) c a z w far =
     let r = first-line a z w in
     ap (codes_from s (suc k) c) r.1.1 ∙ go r.0 r.1.0 (omega (arith, r.1.2))
   where
-    go : (l : List ℕ) (ls : List (List ℕ)) → 72 < length l → codes_from s (suc k) c (l ∷ ls) ≡ codes_refused (s + 1)
+    go : (l : List ℕ) (ls : List (List ℕ)) → 72 < length l → codes_from s (suc k) c (l ∷ ls) ≡ refused BadLine (s + 1)
     go l [] far = refl
     go l (m ∷ ms) far =
-        ap (λ (b : Bool). elim b as (λ x. CodesReading) [ true ↦ codes_from (s + 1) k (with_code s (set_of one (field_at l 2)) c) (m ∷ ms) | false ↦ codes_refused (s + 1) ])
+        ap (λ (b : Bool). elim b as (λ x. CodesReading) [ true ↦ codes_from (s + 1) k (with_code s (set_of one (field_at l 2)) c) (m ∷ ms) | false ↦ refused BadLine (s + 1) ])
         (bad-long c.width s l far (code_good c.width s l) refl)
 
-alone-refused : (s k : ℕ) (c : CodeTable) (a : List ℕ) → Without lf a → 72 < length a → codes_from s k c (lines_of a) ≡ codes_refused (s + 1)
+alone-refused : (s k : ℕ) (c : CodeTable) (a : List ℕ) → Without lf a → 72 < length a → codes_from s k c (lines_of a) ≡ refused BadLine (s + 1)
 alone-refused s k c a w far = ap (λ (x : List ℕ). codes_from s k c (lines_of x)) (sym (append-nil a)) ∙ long-refused s k c a [] w far
 
 -- the lines of both

@@ -1,5 +1,5 @@
 -- The lines of codes, test by test as they are judged, and one after the other.
-use Rattle.std.specs.Prelude.{Option, Some, None}
+use Rattle.std.specs.Prelude.{Option, Some, None, Ok}
 use Rattle.std.specs.Bool.{then_some}
 use Rattle.std.specs.Option.{option_eq}
 use mathlib.Core.Path.{◌≡◌, refl, sym, ap, ap₂, ◌∙◌}
@@ -14,13 +14,14 @@ use borrow.Author.Tests.{eq-eqb, ne_eqb}
 use Rattle.rules.specs.Limits.{most_states, most_bits}
 use Rattle.rules.specs.Text.{bytes, dash, nought, one, lf, same, lines_of, fields_of, field_at, mark_of, sized, set_of, numeral_of}
 use Rattle.rules.specs.Listing.{nothing}
-use Rattle.rules.specs.CheckTexts.{code_fits, width_in, is_number, code_good, codes_refused, codes_read, with_code, codes_from, codes_reading}
+use Rattle.rules.specs.CheckTexts.{code_fits, width_in, is_number, code_good, with_code, codes_from, codes_reading, CodesReading}
 use Rattle.rules.specs.declared.CodeTable.{CodeTable}
-use Rattle.rules.specs.declared.CodesReading.{CodesReading}
 use Rattle.rules.proofs.Known.{same-eq}
 use Rattle.read_pieces.proofs.Laws.{Cut, part, split-some, piece-first}
 use Rattle.read_pieces.proofs.Nothing.{none-behind, some-behind}
 use Rattle.judge_codes.specs.Lines.{just_dash, code_field, code_said}
+use Rattle.rules.specs.Refusals.{refused}
+use Rattle.rules.specs.declared.Refusal.TheVariants.{BadLine}
 
 -- ---- a field
 
@@ -120,10 +121,10 @@ module _ (text : List ℕ) (at end : ℕ) (here : Cut lf text at end) (s n : ℕ
   rest = lines_of (drop (end + 1) text)
 
   abbrev lineBy : Bool → CodesReading
-  lineBy b = elim b [ true ↦ codes_from (s + 1) (n - (s + 1)) (with_code s (set_of one (field_at (part text at end) 2)) c) rest | false ↦ codes_refused (s + 1) ]
+  lineBy b = elim b [ true ↦ codes_from (s + 1) (n - (s + 1)) (with_code s (set_of one (field_at (part text at end) 2)) c) rest | false ↦ refused BadLine (s + 1) ]
 
   -- a line that is missing, or has no LF
-  pub line-missing : s < n → length text ≤ end → codes_refused (s + 1) ≡ left
+  pub line-missing : s < n → length text ≤ end → refused BadLine (s + 1) ≡ left
   unfolding codes_from
   line-missing h o = let more : n - s ≡ suc (n - (s + 1)) = omega arith in sym (ap₂ (λ (k : ℕ) (ls : List (List ℕ)). codes_from s k c ls) more (here.last o))
 
@@ -134,11 +135,11 @@ module _ (text : List ℕ) (at end : ℕ) (here : Cut lf text at end) (s n : ℕ
       ap₂ (λ (k : ℕ) (ls : List (List ℕ)). codes_from s k c ls) more (here.more o) ∙ go rest (split-some lf (drop (end + 1) text))
     where
       go : (ls : List (List ℕ)) → 1 ≤ length ls
-          → codes_from s (suc (n - (s + 1))) c (part text at end ∷ ls) ≡ elim (code_good c.width s (part text at end)) [ true ↦ codes_from (s + 1) (n - (s + 1)) (with_code s (set_of one (field_at (part text at end) 2)) c) ls | false ↦ codes_refused (s + 1) ]
+          → codes_from s (suc (n - (s + 1))) c (part text at end ∷ ls) ≡ elim (code_good c.width s (part text at end)) [ true ↦ codes_from (s + 1) (n - (s + 1)) (with_code s (set_of one (field_at (part text at end) 2)) c) ls | false ↦ refused BadLine (s + 1) ]
       go [] h = absurd (omega arith)
       go (m ∷ ms) h = refl
 
-  pub line-bad : s < n → end < length text → code_good c.width s (part text at end) ≡ false → codes_refused (s + 1) ≡ left
+  pub line-bad : s < n → end < length text → code_good c.width s (part text at end) ≡ false → refused BadLine (s + 1) ≡ left
   line-bad h o e = sym (line-by h o ∙ ap lineBy e)
 
   pub line-good : s < n → end < length text → code_good c.width s (part text at end) ≡ true → codes_from (s + 1) (n - (s + 1)) (with_code s (set_of one (field_at (part text at end) 2)) c) rest ≡ left
@@ -146,15 +147,15 @@ module _ (text : List ℕ) (at end : ℕ) (here : Cut lf text at end) (s n : ℕ
 
 -- behind the last line
 module _ (text : List ℕ) (at s n : ℕ) (c : CodeTable) (over : n ≤ s) where
-  over_by : codes_from s (n - s) c (lines_of (drop at text)) ≡ elim (nothing (lines_of (drop at text))) [ true ↦ codes_read c | false ↦ codes_refused (s + 1) ]
+  over_by : codes_from s (n - s) c (lines_of (drop at text)) ≡ elim (nothing (lines_of (drop at text))) [ true ↦ Ok c | false ↦ refused BadLine (s + 1) ]
   unfolding codes_from
   over_by = let none : n - s ≡ 0 = omega arith in ap (λ (k : ℕ). codes_from s k c (lines_of (drop at text))) none
 
-  pub over-more : (length (drop at text) ≡ 0 → ⊥) → codes_refused (s + 1) ≡ codes_from s (n - s) c (lines_of (drop at text))
-  over-more o = sym (over_by ∙ ap (λ (b : Bool). elim b [ true ↦ codes_read c | false ↦ codes_refused (s + 1) ]) (some-behind (drop at text) o))
+  pub over-more : (length (drop at text) ≡ 0 → ⊥) → refused BadLine (s + 1) ≡ codes_from s (n - s) c (lines_of (drop at text))
+  over-more o = sym (over_by ∙ ap (λ (b : Bool). elim b [ true ↦ Ok c | false ↦ refused BadLine (s + 1) ]) (some-behind (drop at text) o))
 
-  pub over_none : length (drop at text) ≡ 0 → codes_read c ≡ codes_from s (n - s) c (lines_of (drop at text))
-  over_none e = sym (over_by ∙ ap (λ (b : Bool). elim b [ true ↦ codes_read c | false ↦ codes_refused (s + 1) ]) (none-behind (drop at text) e))
+  pub over_none : length (drop at text) ≡ 0 → Ok c ≡ codes_from s (n - s) c (lines_of (drop at text))
+  over_none e = sym (over_by ∙ ap (λ (b : Bool). elim b [ true ↦ Ok c | false ↦ refused BadLine (s + 1) ]) (none-behind (drop at text) e))
 
 -- before the first line
 pub first-codes : (states : ℕ) (text : List ℕ) {n w end : ℕ} → n ≡ min states most_states → Cut lf text 0 end → w ≡ width_in (part text 0 end)

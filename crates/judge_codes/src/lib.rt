@@ -4,11 +4,11 @@
 ghost use Rattle.std.specs.Prelude.{◌≡◌, ◌≤◌, min, take};
 ghost use Rattle.rules.specs.Limits.{most_states};
 ghost use Rattle.rules.specs.Text.{dash, same, lines_of};
-ghost use Rattle.rules.specs.CheckTexts.{width_in, is_number, codes_refused, codes_reading, bit_in};
+ghost use Rattle.rules.specs.CheckTexts.{width_in, is_number, codes_reading, bit_in};
 ghost use Rattle.judge_codes.specs.Lines.{just_dash, code_field, code_said, all_bits};
 
 use read_pieces::{cut, field};
-use rules::{CodeTable, CodesReading, Refusal, Verdict};
+use rules::{CodeTable, Refusal, Refused};
 use std::array;
 
 // Whether a field is one dash.
@@ -63,21 +63,8 @@ fn code_line(w: usize, s: usize, l: &[u8]) -> Option<u64>
     code_in(w, field(l, 2))
 }
 
-fn refuse(line: usize) -> CodesReading
-    ensures { result ≡ codes_refused line }
-{
-    let codes = CodeTable {
-        width: 0,
-        table: [0u64; rules::MOST_STATES],
-    };
-    CodesReading {
-        verdict: Verdict::Refused(Refusal::BadLine, line),
-        codes: codes,
-    }
-}
-
 // The codes of so many states, no more than there can be.
-pub fn read_codes(states: usize, text: &[u8]) -> CodesReading
+pub fn read_codes(states: usize, text: &[u8]) -> Result<CodeTable, Refused>
     ensures { result ≡ codes_reading (min states most_states) (lines_of text.now) }
 {
     let n = sets::least(states, rules::MOST_STATES);
@@ -88,22 +75,18 @@ pub fn read_codes(states: usize, text: &[u8]) -> CodesReading
     for s in 0..n {
         let end = cut(text, at, b'\n');
         if text.len() <= end {
-            return refuse(s + 1);
+            return Err(Refusal::BadLine.at(s + 1));
         }
         let Some(code) = code_line(width, s, &text[at..end]) else {
-            return refuse(s + 1);
+            return Err(Refusal::BadLine.at(s + 1));
         };
         table[s] = code;
         at = end + 1;
     }
     if at < text.len() {
-        return refuse(n + 1);
+        return Err(Refusal::BadLine.at(n + 1));
     }
-    let codes = CodeTable { width, table };
-    CodesReading {
-        verdict: Verdict::Accepted,
-        codes: codes,
-    }
+    Ok(CodeTable { width, table })
 }
 
 // Bit k of the codes of so many states, the first of them at digit 0.
