@@ -14,16 +14,16 @@ use Rattle.rules.specs.declared.Listing.{Listing}
 use Rattle.rules.specs.declared.CodeTable.{CodeTable}
 use Rattle.rules.specs.declared.Refusal.TheVariants.{Limit}
 use Rattle.rules.specs.declared.Verdict.{Verdict}
-use Rattle.judge_reading.specs.declared.Reached.{Reached}
 use Rattle.judge_reading.proofs.InPieces.{Found, joined, in_pieces, cover-in-pieces}
 use Rattle.judge_check.specs.Checked.{reader_for, begun, listing_tables, finished, cover_checked, reply_of}
 use Rattle.judge_check.specs.declared.Begun.{Begun}
 use Rattle.judge_check.proofs.Replies.{reply-read}
+use Rattle.judge_reading.specs.Pieces.{at_line}
 
 module _ (t : Listing) (c : CodeTable) (ps : List (List ℕ)) (last : List ℕ) where
   -- what is found of the pieces
   abbrev pub piecesFound : Found (reader_for t.head c)
-  piecesFound = in_pieces (reader_for t.head c) (Reached.Line 1 no_heads) [] ps last (listing_tables t c)
+  piecesFound = in_pieces (reader_for t.head c) (at_line 1 no_heads) [] ps last (listing_tables t c)
 
   pieces-checked : finished t c piecesFound.0 piecesFound.1 ≡ cover_checked t c (lines_of (joined ps last))
   unfolding cover_checked

@@ -14,7 +14,7 @@ use Rattle.rules.specs.Text.{bytes, nought, one, dash, same, mark_of, fields_of,
 use Rattle.rules.specs.Replay.{marked}
 use Rattle.rules.specs.CheckTexts.{number_behind, places_fit, row_good, with_inputs, with_outputs, with_products, with_row, in_part, row_counted, end_counted, cover_line_in, cover_line, fitting}
 use Rattle.rules.specs.declared.Refusal.TheVariants.{BadLine, Limit, Misfit}
-use Rattle.rules.specs.declared.Verdict.{Verdict}
+use Rattle.rules.specs.Refusals.{refused}
 use Rattle.rules.specs.declared.CoverPart.{CoverPart}
 use Rattle.rules.specs.declared.CoverPart.TheVariants.{Inputs, Outputs, Kind, Products, Rows, Over}
 use Rattle.rules.specs.declared.CoverHeads.{CoverHeads}
@@ -101,17 +101,17 @@ module _ (h : CoverHeads) where
   end-all e = rw (eq-eqb _ _ e)
 
   module _ (i o : ℕ) where
-    fitting-by : {a b : Bool} → eqb h.inputs i ≡ a → eqb h.outputs o ≡ b → fitting i o h ≡ cond a (cond b Verdict.Accepted (Verdict.Refused Misfit 2)) (Verdict.Refused Misfit 1)
+    fitting-by : {a b : Bool} → eqb h.inputs i ≡ a → eqb h.outputs o ≡ b → fitting i o h ≡ cond a (cond b (Ok tt) (refused Misfit 2)) (refused Misfit 1)
     unfolding fitting
     fitting-by e f = rw (e, f)
 
-    pub fit-inputs : (h.inputs ≡ i → ⊥) → Verdict.Refused Misfit 1 ≡ fitting i o h
+    pub fit-inputs : (h.inputs ≡ i → ⊥) → refused Misfit 1 ≡ fitting i o h
     fit-inputs n = sym (fitting-by (ne_eqb _ _ n) refl)
 
-    pub fit-outputs : h.inputs ≡ i → (h.outputs ≡ o → ⊥) → Verdict.Refused Misfit 2 ≡ fitting i o h
+    pub fit-outputs : h.inputs ≡ i → (h.outputs ≡ o → ⊥) → refused Misfit 2 ≡ fitting i o h
     fit-outputs e n = sym (fitting-by (eq-eqb _ _ e) (ne_eqb _ _ n))
 
-    pub fit-both : h.inputs ≡ i → h.outputs ≡ o → Verdict.Accepted ≡ fitting i o h
+    pub fit-both : h.inputs ≡ i → h.outputs ≡ o → (Ok tt) ≡ fitting i o h
     fit-both e f = sym (fitting-by (eq-eqb _ _ e) (eq-eqb _ _ f))
 
 -- ---- what a line does, by the part that it stands in

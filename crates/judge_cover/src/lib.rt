@@ -8,7 +8,7 @@ ghost use Rattle.rules.specs.declared.CoverPart.TheVariants.{Kind, Rows};
 ghost use Rattle.read_marks.specs.Marks.{two_of};
 
 use read_pieces::{field, field_count};
-use rules::{CoverHeads, CoverPart, Refusal, Verdict};
+use rules::{CoverHeads, CoverPart, Refusal, Refused};
 
 // The number behind a mark, where the line is both.
 fn number_behind(l: &[u8], m: &[u8; 2]) -> Option<usize>
@@ -170,14 +170,14 @@ pub fn line_said(h: CoverHeads, l: &[u8]) -> Result<CoverHeads, Refusal>
 }
 
 // Whether `.i` and `.o` are as they have to be: 15 at the line of the one that is not, `.i` first.
-pub fn fit_of(inputs: usize, outputs: usize, h: CoverHeads) -> Verdict
+pub fn fit_of(inputs: usize, outputs: usize, h: CoverHeads) -> Result<(), Refused>
     ensures { result ≡ fitting inputs outputs h }
 {
     if h.inputs != inputs {
-        return Verdict::Refused(Refusal::Misfit, 1);
+        return Err(Refusal::Misfit.at(1));
     }
     if h.outputs != outputs {
-        return Verdict::Refused(Refusal::Misfit, 2);
+        return Err(Refusal::Misfit.at(2));
     }
-    Verdict::Accepted
+    Ok(())
 }

@@ -4,11 +4,10 @@ use mathlib.Core.List.{List, [], ◌∷◌, ◌++◌, append_assoc}
 use Prim.Native.Nat.{ℕ}
 use Rattle.rules.specs.Text.{lines_of}
 use Rattle.rules.specs.CheckTexts.{no_heads, cover_reading}
-use Rattle.rules.specs.declared.Verdict.{Verdict}
+use Rattle.rules.specs.Refusals.{Verdict}
 use Rattle.judge_reading.specs.Tables.{tables_from}
-use Rattle.judge_reading.specs.Pieces.{last_of, whole_reached, whole_tables, closed_by}
+use Rattle.judge_reading.specs.Pieces.{last_of, whole_reached, whole_tables, closed_by, Reached, at_line}
 use Rattle.judge_reading.specs.declared.Reader.{Reader}
-use Rattle.judge_reading.specs.declared.Reached.{Reached}
 use Rattle.judge_reading.proofs.Whole.{whole-tables, cover-verdict, carried, seam-place, seam-tables, seam-last}
 
 -- the text that the pieces are, the last behind all others
@@ -47,7 +46,7 @@ module _ (q : Reader) where
 
   -- from the start
   pub cover-in-pieces : (ps : List (List ℕ)) (last : List ℕ) (t : List ℕ × List ℕ)
-      → in_pieces (Reached.Line 1 no_heads) [] ps last t ≡ (cover_reading q.taken q.given (lines_of (joined ps last)), tables_from q no_heads (lines_of (joined ps last)) t)
+      → in_pieces (at_line 1 no_heads) [] ps last t ≡ (cover_reading q.taken q.given (lines_of (joined ps last)), tables_from q no_heads (lines_of (joined ps last)) t)
   cover-in-pieces ps last t =
-      pieces-are-all (Reached.Line 1 no_heads) [] ps last t
+      pieces-are-all (at_line 1 no_heads) [] ps last t
       ∙ ap₂ (λ (v : Verdict) (u : List ℕ × List ℕ). (v, u)) (cover-verdict q (joined ps last)) (whole-tables q 1 no_heads (lines_of (joined ps last)) t)

@@ -11,13 +11,15 @@ use Rattle.rules.specs.Limits.{most_states, most_checked}
 use Rattle.rules.specs.CheckTexts.{fitting, is_over, cover_end}
 use Rattle.rules.specs.declared.Refusal.{Refusal}
 use Rattle.rules.specs.declared.Refusal.TheVariants.{BadLine}
-use Rattle.rules.specs.declared.Verdict.{Verdict}
+use Rattle.rules.specs.Refusals.{Verdict, refused}
 use Rattle.rules.specs.declared.CoverHeads.{CoverHeads}
 use Rattle.judge_rows.specs.Rows.{line_laid}
 use Rattle.judge_reading.specs.Tables.{is_laid, row_laid}
-use Rattle.judge_reading.specs.Pieces.{closed_by}
+use Rattle.judge_reading.specs.Pieces.{closed_by, Reached, at_line}
 use Rattle.judge_reading.specs.declared.Reader.{Reader}
-use Rattle.judge_reading.specs.declared.Reached.{Reached}
+use Rattle.rules.specs.declared.Refused.{Refused}
+use Rattle.std.specs.Prelude.{Ok, Err}
+use Rattle.judge_reading.specs.declared.Place.{Place}
 
 -- ---- a row in the tables
 
@@ -49,35 +51,35 @@ module _ (q : Reader) (h g : CoverHeads) (l : List ℕ) (t : List ℕ × List �
 -- ---- the end
 
 module _ (i o k : ℕ) (h : CoverHeads) (l : List ℕ) where
-  pub end_more : (length l ≡ 0 → ⊥) → Verdict.Refused BadLine k ≡ cover_end i o k h l
+  pub end_more : (length l ≡ 0 → ⊥) → refused BadLine k ≡ cover_end i o k h l
   unfolding cover_end
   end_more n = go l n
     where
-      go : (l : List ℕ) → (length l ≡ 0 → ⊥) → Verdict.Refused BadLine k ≡ cover_end i o k h l
+      go : (l : List ℕ) → (length l ≡ 0 → ⊥) → refused BadLine k ≡ cover_end i o k h l
       go [] n = absurd (n refl)
       go (x ∷ xs) n = refl
 
-  end_by : {b : Bool} → length l ≡ 0 → is_over h.part ≡ b → cover_end i o k h l ≡ cond b (fitting i o h) (Verdict.Refused BadLine k)
+  end_by : {b : Bool} → length l ≡ 0 → is_over h.part ≡ b → cover_end i o k h l ≡ cond b (fitting i o h) (refused BadLine k)
   unfolding cover_end
   end_by {b} e f = go l e
     where
-      go : (l : List ℕ) → length l ≡ 0 → cover_end i o k h l ≡ cond b (fitting i o h) (Verdict.Refused BadLine k)
-      go [] e = ap (λ (b : Bool). cond b (fitting i o h) (Verdict.Refused BadLine k)) f
+      go : (l : List ℕ) → length l ≡ 0 → cover_end i o k h l ≡ cond b (fitting i o h) (refused BadLine k)
+      go [] e = ap (λ (b : Bool). cond b (fitting i o h) (refused BadLine k)) f
       go (x ∷ xs) e = absurd (omega arith)
 
   pub end-over : {v : Verdict} → length l ≡ 0 → is_over h.part ≡ true → v ≡ fitting i o h → v ≡ cover_end i o k h l
   end-over e p q = q ∙ sym (end_by e p)
 
-  pub end-early : length l ≡ 0 → is_over h.part ≡ false → Verdict.Refused BadLine k ≡ cover_end i o k h l
+  pub end-early : length l ≡ 0 → is_over h.part ≡ false → refused BadLine k ≡ cover_end i o k h l
   end-early e f = sym (end_by e f)
 
 -- by the place
 
 module _ (q : Reader) (rest : List ℕ) {p : Reached} where
-  pub closed-refused : {r : Refusal} {k : ℕ} → p ≡ Reached.Refused r k → Verdict.Refused r k ≡ closed_by q p rest
+  pub closed-refused : {why : Refused} → p ≡ Err why → Err why ≡ closed_by q p rest
   unfolding closed_by
   closed-refused e = sym (ap (λ (x : Reached). closed_by q x rest) e)
 
-  pub closed-line : {k : ℕ} {h : CoverHeads} {v : Verdict} → p ≡ Reached.Line k h → v ≡ cover_end q.taken q.given k h rest → v ≡ closed_by q p rest
+  pub closed-line : {at : Place} {v : Verdict} → p ≡ Ok at → v ≡ cover_end q.taken q.given at.line at.heads rest → v ≡ closed_by q p rest
   unfolding closed_by
   closed-line e f = f ∙ sym (ap (λ (x : Reached). closed_by q x rest) e)

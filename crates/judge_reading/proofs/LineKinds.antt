@@ -16,7 +16,7 @@ use Rattle.rules.specs.Replay.{marked}
 use Rattle.rules.specs.CheckTexts.{number_behind, row_good, with_inputs, with_outputs, with_products, in_part, with_row, row_counted, end_counted, cover_line_in, cover_line, fitting, is_over, cover_end, cover_from, cover_reading, no_heads}
 use Rattle.rules.specs.declared.Refusal.{Refusal}
 use Rattle.rules.specs.declared.Refusal.TheVariants.{BadLine, Limit, Misfit}
-use Rattle.rules.specs.declared.Verdict.{Verdict}
+use Rattle.rules.specs.Refusals.{refused, Verdict}
 use Rattle.rules.specs.declared.CoverPart.{CoverPart}
 use Rattle.rules.specs.declared.CoverPart.TheVariants.{Inputs, Outputs, Kind, Products, Rows, Over}
 use Rattle.rules.specs.declared.CoverHeads.{CoverHeads}
@@ -28,7 +28,7 @@ use Rattle.rules.proofs.Ways.{chose-first, not-accepted}
 pub unread : (r : Refusal) (g : CoverHeads) → Err r ≡ Ok g → ⊥
 unread r g e = let z : ◌≡◌ {A = ℕ} 0 1 = cc in omega arith
 
-pub read_same : (a b : CoverHeads) → Ok a ≡ Ok b → a ≡ b
+pub read_same : (a b : CoverHeads) → ◌≡◌ {A = Result CoverHeads Refusal} (Ok a) (Ok b) → a ≡ b
 read_same a b e = cc
 
 -- ---- head lines
@@ -166,18 +166,18 @@ behind_heads Over = true
 abbrev pub Fits : ℕ → ℕ → CoverHeads → Type 0
 Fits i o h = (h.inputs ≡ i) × (h.outputs ≡ o)
 
-fitting-fits : (i o : ℕ) (h : CoverHeads) → fitting i o h ≡ Verdict.Accepted → Fits i o h
+fitting-fits : (i o : ℕ) (h : CoverHeads) → fitting i o h ≡ Ok tt → Fits i o h
 unfolding fitting
 fitting-fits i o h e =
-    let a = chose-first (eqb h.inputs i) e (not-accepted Misfit 1) in
-    let b = chose-first (eqb h.outputs o) a.1 (not-accepted Misfit 2) in
+    let a = chose-first (eqb h.inputs i) e not-accepted in
+    let b = chose-first (eqb h.outputs o) a.1 not-accepted in
     (eqb-true h.inputs i a.0, eqb-true h.outputs o b.0)
 
 -- nothing stands behind the last LF
-pub end_none : (i o k : ℕ) (h : CoverHeads) (l : List ℕ) → cover_end i o k h l ≡ Verdict.Accepted → (l ≡ []) × Fits i o h
+pub end_none : (i o k : ℕ) (h : CoverHeads) (l : List ℕ) → cover_end i o k h l ≡ Ok tt → (l ≡ []) × Fits i o h
 unfolding cover_end
-end_none i o k h [] e = (refl, fitting-fits i o h (chose-first (is_over h.part) e (not-accepted BadLine k)).1)
-end_none i o k h (x ∷ xs) e = absurd (not-accepted BadLine k e)
+end_none i o k h [] e = (refl, fitting-fits i o h (chose-first (is_over h.part) e not-accepted).1)
+end_none i o k h (x ∷ xs) e = absurd (not-accepted e)
 
 abbrev Kept : CoverHeads → CoverHeads → Type 0
 Kept h g = (behind_heads g.part ≡ true) × (g.inputs ≡ h.inputs) × (g.outputs ≡ h.outputs)
@@ -204,21 +204,21 @@ kept h g l b e = go h.part b e
     go Rows b e = rows-keep (body h g l e)
     go Over b e = absurd (unread BadLine g e)
 
-fits-behind : (i o k : ℕ) (h : CoverHeads) (ls : List (List ℕ)) → behind_heads h.part ≡ true → cover_from i o k h ls ≡ Verdict.Accepted → Fits i o h
+fits-behind : (i o k : ℕ) (h : CoverHeads) (ls : List (List ℕ)) → behind_heads h.part ≡ true → cover_from i o k h ls ≡ Ok tt → Fits i o h
 unfolding cover_from
-fits-behind i o k h [] b e = absurd (not-accepted BadLine k e)
+fits-behind i o k h [] b e = absurd (not-accepted e)
 fits-behind i o k h (l ∷ []) b e = (end_none i o k h l e).1
 fits-behind i o k h (l ∷ (m ∷ ms)) b e = go (cover_line h l) refl e (λ g. fits-behind i o (k + 1) g (m ∷ ms))
   where
-    go : (c : Result CoverHeads Refusal) → cover_line h l ≡ c → elim c [ Ok g ↦ cover_from i o (k + 1) g (m ∷ ms) | Err r ↦ Verdict.Refused r k ] ≡ Verdict.Accepted
-        → ((g : CoverHeads) → behind_heads g.part ≡ true → cover_from i o (k + 1) g (m ∷ ms) ≡ Verdict.Accepted → Fits i o g) → Fits i o h
+    go : (c : Result CoverHeads Refusal) → cover_line h l ≡ c → ◌≡◌ {A = Verdict} (elim c [ Ok g ↦ cover_from i o (k + 1) g (m ∷ ms) | Err r ↦ refused r k ]) (Ok tt)
+        → ((g : CoverHeads) → behind_heads g.part ≡ true → cover_from i o (k + 1) g (m ∷ ms) ≡ Ok tt → Fits i o g) → Fits i o h
     go (Ok g) q e later =
         let s = kept h g l b q in
         let f = later g s.0 e in
         (sym s.1 ∙ f.0, sym s.2 ∙ f.1)
-    go (Err r) q e later = absurd (not-accepted r k e)
+    go (Err r) q e later = absurd (not-accepted e)
 
-pub rows_fit : (i o k : ℕ) (h : CoverHeads) (ls : List (List ℕ)) → h.part ≡ Rows → cover_from i o k h ls ≡ Verdict.Accepted → Fits i o h
+pub rows_fit : (i o k : ℕ) (h : CoverHeads) (ls : List (List ℕ)) → h.part ≡ Rows → cover_from i o k h ls ≡ Ok tt → Fits i o h
 rows_fit i o k h ls p e = fits-behind i o k h ls (ap behind_heads p) e
 
 -- ---- the line of a refusal
@@ -238,32 +238,32 @@ fewer h g l e = go (line_read h g l e)
         let rows : g.rows ≡ h.rows + 1 = ap (λ (c : CoverHeads). c.rows) d.3 in
         omega (arith, d.2, part, was, rows)
 
-refused-same : (r q : Refusal) (k m : ℕ) → Verdict.Refused r k ≡ Verdict.Refused q m → k ≡ m
-refused-same r q k m e = cc
+refused-same : (r q : Refusal) (k m : ℕ) → ◌≡◌ {A = Verdict} (refused r k) (refused q m) → k ≡ m
+refused-same r q k m e = ap (λ (v : Verdict). elim v [ Ok _ ↦ k | Err why ↦ why.line ]) e
 
-end_line : (i o k : ℕ) (h : CoverHeads) (l : List ℕ) (q : Refusal) (m : ℕ) → cover_end i o k h l ≡ Verdict.Refused q m → m ≤ k + 2
+end_line : (i o k : ℕ) (h : CoverHeads) (l : List ℕ) (q : Refusal) (m : ℕ) → cover_end i o k h l ≡ refused q m → m ≤ k + 2
 unfolding cover_end fitting
 end_line i o k h (x ∷ xs) q m e = omega (arith, refused-same BadLine q k m e)
 end_line i o k h [] q m e = go (is_over h.part) (eqb h.inputs i) (eqb h.outputs o) e
   where
-    go : (a b c : Bool) → cond a (cond b (cond c Verdict.Accepted (Verdict.Refused Misfit 2)) (Verdict.Refused Misfit 1)) (Verdict.Refused BadLine k) ≡ Verdict.Refused q m → m ≤ k + 2
+    go : (a b c : Bool) → ◌≡◌ {A = Verdict} (cond a (cond b (cond c (Ok tt) (refused Misfit 2)) (refused Misfit 1)) (refused BadLine k)) (refused q m) → m ≤ k + 2
     go false b c e = omega (arith, refused-same BadLine q k m e)
     go true false c e = omega (arith, refused-same Misfit q 1 m e)
     go true true false e = omega (arith, refused-same Misfit q 2 m e)
-    go true true true e = absurd (not-accepted q m (sym e))
+    go true true true e = absurd (not-accepted (sym e))
 
-line-from : (i o k : ℕ) (h : CoverHeads) (ls : List (List ℕ)) (q : Refusal) (m : ℕ) → cover_from i o k h ls ≡ Verdict.Refused q m → m ≤ k + left h + 2
+line-from : (i o k : ℕ) (h : CoverHeads) (ls : List (List ℕ)) (q : Refusal) (m : ℕ) → cover_from i o k h ls ≡ refused q m → m ≤ k + left h + 2
 unfolding cover_from
 line-from i o k h [] q m e = omega (arith, refused-same BadLine q k m e)
 line-from i o k h (l ∷ []) q m e = omega (arith, end_line i o k h l q m e)
 line-from i o k h (l ∷ (n ∷ ns)) q m e = go (cover_line h l) refl e (λ g. line-from i o (k + 1) g (n ∷ ns) q m)
   where
-    go : (c : Result CoverHeads Refusal) → cover_line h l ≡ c → elim c [ Ok g ↦ cover_from i o (k + 1) g (n ∷ ns) | Err r ↦ Verdict.Refused r k ] ≡ Verdict.Refused q m
-        → ((g : CoverHeads) → cover_from i o (k + 1) g (n ∷ ns) ≡ Verdict.Refused q m → m ≤ k + 1 + left g + 2) → m ≤ k + left h + 2
+    go : (c : Result CoverHeads Refusal) → cover_line h l ≡ c → ◌≡◌ {A = Verdict} (elim c [ Ok g ↦ cover_from i o (k + 1) g (n ∷ ns) | Err r ↦ refused r k ]) (refused q m)
+        → ((g : CoverHeads) → cover_from i o (k + 1) g (n ∷ ns) ≡ refused q m → m ≤ k + 1 + left g + 2) → m ≤ k + left h + 2
     go (Ok g) s e later = omega (arith, later g e, fewer h g l s)
     go (Err r) s e later = omega (arith, refused-same r q k m e)
 
 -- no cover is refused behind line 264
-pub cover-line : (i o : ℕ) (ls : List (List ℕ)) (q : Refusal) (m : ℕ) → cover_reading i o ls ≡ Verdict.Refused q m → m ≤ 264
+pub cover-line : (i o : ℕ) (ls : List (List ℕ)) (q : Refusal) (m : ℕ) → cover_reading i o ls ≡ refused q m → m ≤ 264
 unfolding cover_reading
 cover-line i o ls q m e = omega (arith, line-from i o 1 no_heads ls q m e)

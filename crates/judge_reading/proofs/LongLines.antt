@@ -15,7 +15,7 @@ use Rattle.rules.specs.Text.{bytes, lf, space, nought, nine, one, dash, same, li
 use Rattle.rules.specs.Replay.{marked}
 use Rattle.rules.specs.CheckTexts.{number_behind, places_fit, row_good, with_inputs, with_outputs, with_products, with_row, in_part, row_counted, end_counted, cover_line_in, cover_line, cover_end}
 use Rattle.rules.specs.declared.Refusal.TheVariants.{BadLine, Limit}
-use Rattle.rules.specs.declared.Verdict.{Verdict}
+use Rattle.rules.specs.Refusals.{refused}
 use Rattle.rules.specs.declared.CoverPart.{CoverPart}
 use Rattle.rules.specs.declared.CoverPart.TheVariants.{Inputs, Outputs, Kind, Products, Rows, Over}
 use Rattle.rules.specs.declared.CoverHeads.{CoverHeads}
@@ -23,9 +23,8 @@ use Rattle.rules.proofs.Fields.{Without}
 use Rattle.rules.proofs.Ways.{chose-first}
 use Rattle.run_lines.proofs.Lengths.{same-long, fields-long, marked-long, numeral-long, first-line}
 use Rattle.judge_reading.specs.Tables.{row_laid}
-use Rattle.judge_reading.specs.Pieces.{most_cover_lines, last_of, line_reached, line_tables, whole_reached, whole_tables, closed_by}
+use Rattle.judge_reading.specs.Pieces.{most_cover_lines, last_of, line_reached, line_tables, whole_reached, whole_tables, closed_by, Reached, at_line}
 use Rattle.judge_reading.specs.declared.Reader.{Reader}
-use Rattle.judge_reading.specs.declared.Reached.{Reached}
 use Rattle.judge_reading.proofs.LineKinds.{unread, read_same}
 use Rattle.judge_reading.proofs.Whole.{refused-stays, refused-lays}
 
@@ -79,41 +78,41 @@ module _ (l : List ℕ) (long : long-line ≤ length l) where
           ∙ rw (row-long h small (row_good h l) refl)
       go Over = refl
 
-  place-long : (k : ℕ) (h : CoverHeads) → Small h → line_reached (Reached.Line k h) l ≡ Reached.Refused BadLine k
+  place-long : (k : ℕ) (h : CoverHeads) → Small h → line_reached (at_line k h) l ≡ refused BadLine k
   unfolding line_reached
   place-long k h small =
-      ap (λ (v : Result CoverHeads Refusal). elim v as (λ x. Reached) [ Ok g ↦ Reached.Line (min k most_cover_lines + 1) g | Err r ↦ Reached.Refused r k ]) (line-long h small)
+      ap (λ (v : Result CoverHeads Refusal). elim v as (λ x. Reached) [ Ok g ↦ at_line (min k most_cover_lines + 1) g | Err r ↦ refused r k ]) (line-long h small)
 
-  tables-long : (q : Reader) (k : ℕ) (h : CoverHeads) (t : List ℕ × List ℕ) → Small h → line_tables q (Reached.Line k h) l t ≡ t
+  tables-long : (q : Reader) (k : ℕ) (h : CoverHeads) (t : List ℕ × List ℕ) → Small h → line_tables q (at_line k h) l t ≡ t
   unfolding line_tables
   tables-long q k h t small =
       ap (λ (v : Result CoverHeads Refusal). elim v as (λ x. List ℕ × List ℕ) [ Ok g ↦ row_laid q h g l t | Err r ↦ t ]) (line-long h small)
 
 -- a cover that stands before such a line is refused there, with what comes behind it or without, and nothing more is laid
 module _ (q : Reader) (k : ℕ) (h : CoverHeads) (small : Small h) (a z : List ℕ) (alone : Without lf a) (long : long-line ≤ length a) where
-  pub long-closed : closed_by q (whole_reached (Reached.Line k h) (lines_of (a ++ z))) (last_of (lines_of (a ++ z))) ≡ Verdict.Refused BadLine k
+  pub long-closed : closed_by q (whole_reached (at_line k h) (lines_of (a ++ z))) (last_of (lines_of (a ++ z))) ≡ refused BadLine k
   unfolding whole_reached line_reached last_of closed_by cover_end
   long-closed =
       let r = first-line a z alone in
-      ap (λ (ls : List (List ℕ)). closed_by q (whole_reached (Reached.Line k h) ls) (last_of ls)) r.1.1 ∙ go r.0 r.1.0 (omega (arith, r.1.2))
+      ap (λ (ls : List (List ℕ)). closed_by q (whole_reached (at_line k h) ls) (last_of ls)) r.1.1 ∙ go r.0 r.1.0 (omega (arith, r.1.2))
     where
-      ended : (l : List ℕ) → long-line ≤ length l → closed_by q (Reached.Line k h) l ≡ Verdict.Refused BadLine k
+      ended : (l : List ℕ) → long-line ≤ length l → closed_by q (at_line k h) l ≡ refused BadLine k
       ended [] far = absurd (omega arith)
       ended (x ∷ xs) far = refl
 
-      go : (l : List ℕ) (ls : List (List ℕ)) → long-line ≤ length l → closed_by q (whole_reached (Reached.Line k h) (l ∷ ls)) (last_of (l ∷ ls)) ≡ Verdict.Refused BadLine k
+      go : (l : List ℕ) (ls : List (List ℕ)) → long-line ≤ length l → closed_by q (whole_reached (at_line k h) (l ∷ ls)) (last_of (l ∷ ls)) ≡ refused BadLine k
       go l [] far = ended l far
       go l (m ∷ ms) far =
           ap (λ (p : Reached). closed_by q (whole_reached p (m ∷ ms)) (last_of (m ∷ ms))) (place-long l far k h small)
           ∙ ap (λ (p : Reached). closed_by q p (last_of (m ∷ ms))) (refused-stays BadLine k (m ∷ ms))
 
-  pub long-laid : (t : List ℕ × List ℕ) → whole_tables q (Reached.Line k h) (lines_of (a ++ z)) t ≡ t
+  pub long-laid : (t : List ℕ × List ℕ) → whole_tables q (at_line k h) (lines_of (a ++ z)) t ≡ t
   unfolding whole_tables line_reached line_tables
   long-laid t =
       let r = first-line a z alone in
-      ap (λ (ls : List (List ℕ)). whole_tables q (Reached.Line k h) ls t) r.1.1 ∙ go r.0 r.1.0 (omega (arith, r.1.2))
+      ap (λ (ls : List (List ℕ)). whole_tables q (at_line k h) ls t) r.1.1 ∙ go r.0 r.1.0 (omega (arith, r.1.2))
     where
-      go : (l : List ℕ) (ls : List (List ℕ)) → long-line ≤ length l → whole_tables q (Reached.Line k h) (l ∷ ls) t ≡ t
+      go : (l : List ℕ) (ls : List (List ℕ)) → long-line ≤ length l → whole_tables q (at_line k h) (l ∷ ls) t ≡ t
       go l [] far = refl
       go l (m ∷ ms) far =
           ap₂ (λ (p : Reached) (u : List ℕ × List ℕ). whole_tables q p (m ∷ ms) u) (place-long l far k h small) (tables-long l far q k h t small)
@@ -160,7 +159,7 @@ line_small : (h g : CoverHeads) (l : List ℕ) → Small h → cover_line h l �
 unfolding cover_line cover_line_in row_counted end_counted
 line_small h g l small e = go h.part e
   where
-    made : (c : CoverHeads) → Ok c ≡ Ok g → Small c → Small g
+    made : (c : CoverHeads) → ◌≡◌ {A = Result CoverHeads Refusal} (Ok c) (Ok g) → Small c → Small g
     made c q k = subst Small (read_same c g q) k
 
     products : (n : Option ℕ) → with_products n h ≡ Ok g → Small g
@@ -201,17 +200,17 @@ line_small h g l small e = go h.part e
     go Over q = absurd (unread BadLine g q)
 
 abbrev pub SmallPlace : Reached → Type 0
-SmallPlace (Reached.Line k h) = Small h
-SmallPlace (Reached.Refused r k) = Unit {0}
+SmallPlace (Ok p) = Small p.heads
+SmallPlace (Err why) = Unit {0}
 
 pub lines-small : (p : Reached) (ls : List (List ℕ)) → SmallPlace p → SmallPlace (whole_reached p ls)
 unfolding whole_reached line_reached
 lines-small p [] s = s
 lines-small p (l ∷ []) s = s
-lines-small (Reached.Refused r k) (l ∷ (m ∷ ms)) s = lines-small (Reached.Refused r k) (m ∷ ms) s
-lines-small (Reached.Line k h) (l ∷ (m ∷ ms)) s = go (cover_line h l) refl (λ p. lines-small p (m ∷ ms))
+lines-small (Err why) (l ∷ (m ∷ ms)) s = lines-small (Err why) (m ∷ ms) s
+lines-small (Ok p) (l ∷ (m ∷ ms)) s = go (cover_line p.heads l) refl (λ p. lines-small p (m ∷ ms))
   where
-    go : (v : Result CoverHeads Refusal) → cover_line h l ≡ v → ((p : Reached) → SmallPlace p → SmallPlace (whole_reached p (m ∷ ms)))
-        → SmallPlace (whole_reached (elim v [ Ok g ↦ Reached.Line (min k most_cover_lines + 1) g | Err r ↦ Reached.Refused r k ]) (m ∷ ms))
-    go (Ok g) e later = later (Reached.Line (min k most_cover_lines + 1) g) (line_small h g l s e)
-    go (Err r) e later = later (Reached.Refused r k) tt
+    go : (v : Result CoverHeads Refusal) → cover_line p.heads l ≡ v → ((q : Reached) → SmallPlace q → SmallPlace (whole_reached q (m ∷ ms)))
+        → SmallPlace (whole_reached (elim v [ Ok g ↦ at_line (min p.line most_cover_lines + 1) g | Err r ↦ refused r p.line ]) (m ∷ ms))
+    go (Ok g) e later = later (at_line (min p.line most_cover_lines + 1) g) (line_small p.heads g l s e)
+    go (Err r) e later = later (refused r p.line) tt

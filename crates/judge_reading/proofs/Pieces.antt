@@ -11,39 +11,41 @@ use Rattle.rules.specs.declared.Refusal.{Refusal}
 use Rattle.rules.specs.declared.CoverHeads.{CoverHeads}
 use Rattle.read_pieces.proofs.Laws.{Cut, part, split-some}
 use Rattle.judge_reading.specs.Tables.{row_laid}
-use Rattle.judge_reading.specs.Pieces.{most_cover_lines, last_of, line_reached, line_tables, whole_reached, whole_tables, piece_from}
+use Rattle.judge_reading.specs.Pieces.{most_cover_lines, last_of, line_reached, line_tables, whole_reached, whole_tables, piece_from, Reached, at_line}
 use Rattle.judge_reading.specs.declared.Reader.{Reader}
-use Rattle.judge_reading.specs.declared.Reached.{Reached}
+use Rattle.rules.specs.Refusals.{refused}
+use Rattle.rules.specs.declared.Refused.{Refused}
+use Rattle.judge_reading.specs.declared.Place.{Place}
 
 -- ---- a line
 
 module _ (l : List ℕ) {p : Reached} where
   -- behind a refusal nothing is read
-  pub stays-place : {r : Refusal} {k : ℕ} → p ≡ Reached.Refused r k → Reached.Refused r k ≡ line_reached p l
+  pub stays-place : {why : Refused} → p ≡ Err why → Err why ≡ line_reached p l
   unfolding line_reached
   stays-place e = sym (ap (λ (x : Reached). line_reached x l) e)
 
-  pub stays-tables : (q : Reader) (t : List ℕ × List ℕ) {r : Refusal} {k : ℕ} → p ≡ Reached.Refused r k → t ≡ line_tables q p l t
+  pub stays-tables : (q : Reader) (t : List ℕ × List ℕ) {why : Refused} → p ≡ Err why → t ≡ line_tables q p l t
   unfolding line_tables
   stays-tables q t e = sym (ap (λ (x : Reached). line_tables q x l t) e)
 
-  module _ {k : ℕ} {h : CoverHeads} (e : p ≡ Reached.Line k h) {v : Result CoverHeads Refusal} (said : v ≡ cover_line h l) where
+  module _ {at : Place} (e : p ≡ Ok at) {v : Result CoverHeads Refusal} (said : v ≡ cover_line at.heads l) where
     abbrev placeBy : Result CoverHeads Refusal → Reached
-    placeBy v = elim v [ Ok g ↦ Reached.Line (min k most_cover_lines + 1) g | Err r ↦ Reached.Refused r k ]
+    placeBy v = elim v [ Ok g ↦ at_line (min at.line most_cover_lines + 1) g | Err r ↦ refused r at.line ]
 
     place-by : line_reached p l ≡ placeBy v
     unfolding line_reached
     place-by = ap (λ (x : Reached). line_reached x l) e ∙ sym (ap placeBy said)
 
-    pub refused-place : {r : Refusal} → v ≡ Err r → Reached.Refused r k ≡ line_reached p l
+    pub refused-place : {r : Refusal} → v ≡ Err r → refused r at.line ≡ line_reached p l
     refused-place f = sym (place-by ∙ ap placeBy f)
 
-    pub read-place : {g : CoverHeads} {n : ℕ} → v ≡ Ok g → n ≡ min k most_cover_lines → Reached.Line (n + 1) g ≡ line_reached p l
-    read-place {g} f m = ap (λ (n : ℕ). Reached.Line (n + 1) g) m ∙ sym (place-by ∙ ap placeBy f)
+    pub read-place : {g : CoverHeads} {n : ℕ} → v ≡ Ok g → n ≡ min at.line most_cover_lines → at_line (n + 1) g ≡ line_reached p l
+    read-place {g} f m = ap (λ (n : ℕ). at_line (n + 1) g) m ∙ sym (place-by ∙ ap placeBy f)
 
     module _ (q : Reader) (t : List ℕ × List ℕ) where
       abbrev tablesBy : Result CoverHeads Refusal → List ℕ × List ℕ
-      tablesBy v = elim v [ Ok g ↦ row_laid q h g l t | Err r ↦ t ]
+      tablesBy v = elim v [ Ok g ↦ row_laid q at.heads g l t | Err r ↦ t ]
 
       tables-by : line_tables q p l t ≡ tablesBy v
       unfolding line_tables
@@ -52,7 +54,7 @@ module _ (l : List ℕ) {p : Reached} where
       pub refused-tables : {r : Refusal} → v ≡ Err r → t ≡ line_tables q p l t
       refused-tables f = sym (tables-by ∙ ap tablesBy f)
 
-      pub read-tables : {g : CoverHeads} {u : List ℕ × List ℕ} → v ≡ Ok g → u ≡ row_laid q h g l t → u ≡ line_tables q p l t
+      pub read-tables : {g : CoverHeads} {u : List ℕ × List ℕ} → v ≡ Ok g → u ≡ row_laid q at.heads g l t → u ≡ line_tables q p l t
       read-tables f m = m ∙ sym (tables-by ∙ ap tablesBy f)
 
 -- ---- the line from `at` to `end`

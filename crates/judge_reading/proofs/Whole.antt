@@ -10,15 +10,14 @@ use lib.ListN.{length, take, drop, length-append, length-drop}
 use lib.Seq.{drop-append_seam, take_all}
 use Rattle.rules.specs.Text.{lf, push, split, lines_of}
 use Rattle.rules.specs.CheckTexts.{no_heads, cover_line, cover_from, cover_reading}
-use Rattle.rules.specs.declared.Verdict.{Verdict}
+use Rattle.rules.specs.Refusals.{Verdict, refused}
 use Rattle.rules.specs.declared.Refusal.{Refusal}
 use Rattle.rules.specs.declared.CoverHeads.{CoverHeads}
 use Rattle.read_pieces.proofs.Laws.{split-some}
 use Rattle.read_pieces.proofs.Places.{only-piece}
 use Rattle.judge_reading.specs.Tables.{row_laid, tables_from}
-use Rattle.judge_reading.specs.Pieces.{most_cover_lines, last_of, line_reached, line_tables, whole_reached, whole_tables, piece_from, closed_by}
+use Rattle.judge_reading.specs.Pieces.{most_cover_lines, last_of, line_reached, line_tables, whole_reached, whole_tables, piece_from, closed_by, Reached, at_line}
 use Rattle.judge_reading.specs.declared.Reader.{Reader}
-use Rattle.judge_reading.specs.declared.Reached.{Reached}
 use Rattle.judge_reading.specs.declared.Piece.{Piece}
 use Rattle.judge_reading.proofs.LineKinds.{left, fewer}
 
@@ -74,53 +73,53 @@ module _ (p : Reached) (text : List ℕ) where
 abbrev pub Placed : ℕ → CoverHeads → Type 0
 Placed k h = k + left h ≤ most_cover_lines + 1
 
-pub refused-stays : (r : Refusal) (k : ℕ) (ls : List (List ℕ)) → whole_reached (Reached.Refused r k) ls ≡ Reached.Refused r k
+pub refused-stays : (r : Refusal) (k : ℕ) (ls : List (List ℕ)) → whole_reached (refused r k) ls ≡ refused r k
 unfolding whole_reached line_reached
 refused-stays r k [] = refl
 refused-stays r k (l ∷ []) = refl
 refused-stays r k (l ∷ (m ∷ ms)) = refused-stays r k (m ∷ ms)
 
-pub refused-lays : (q : Reader) (r : Refusal) (k : ℕ) (ls : List (List ℕ)) (t : List ℕ × List ℕ) → whole_tables q (Reached.Refused r k) ls t ≡ t
+pub refused-lays : (q : Reader) (r : Refusal) (k : ℕ) (ls : List (List ℕ)) (t : List ℕ × List ℕ) → whole_tables q (refused r k) ls t ≡ t
 unfolding whole_tables line_reached line_tables
 refused-lays q r k [] t = refl
 refused-lays q r k (l ∷ []) t = refl
 refused-lays q r k (l ∷ (m ∷ ms)) t = refused-lays q r k (m ∷ ms) t
 
 module _ (q : Reader) where
-  whole-verdict : (k : ℕ) (h : CoverHeads) (ls : List (List ℕ)) → 1 ≤ length ls → Placed k h → closed_by q (whole_reached (Reached.Line k h) ls) (last_of ls) ≡ cover_from q.taken q.given k h ls
+  whole-verdict : (k : ℕ) (h : CoverHeads) (ls : List (List ℕ)) → 1 ≤ length ls → Placed k h → closed_by q (whole_reached (at_line k h) ls) (last_of ls) ≡ cover_from q.taken q.given k h ls
   unfolding whole_reached closed_by last_of cover_from line_reached
   whole-verdict k h [] s p = absurd (omega arith)
   whole-verdict k h (l ∷ []) s p = refl
   whole-verdict k h (l ∷ (m ∷ ms)) s p = go (cover_line h l) refl (λ g. whole-verdict (k + 1) g (m ∷ ms) (omega arith))
     where
-      go : (v : Result CoverHeads Refusal) → cover_line h l ≡ v → ((g : CoverHeads) → Placed (k + 1) g → closed_by q (whole_reached (Reached.Line (k + 1) g) (m ∷ ms)) (last_of (m ∷ ms)) ≡ cover_from q.taken q.given (k + 1) g (m ∷ ms))
-          → closed_by q (whole_reached (elim v [ Ok g ↦ Reached.Line (min k most_cover_lines + 1) g | Err r ↦ Reached.Refused r k ]) (m ∷ ms)) (last_of (m ∷ ms))
-          ≡ elim v [ Ok g ↦ cover_from q.taken q.given (k + 1) g (m ∷ ms) | Err r ↦ Verdict.Refused r k ]
+      go : (v : Result CoverHeads Refusal) → cover_line h l ≡ v → ((g : CoverHeads) → Placed (k + 1) g → closed_by q (whole_reached (at_line (k + 1) g) (m ∷ ms)) (last_of (m ∷ ms)) ≡ cover_from q.taken q.given (k + 1) g (m ∷ ms))
+          → closed_by q (whole_reached (elim v [ Ok g ↦ at_line (min k most_cover_lines + 1) g | Err r ↦ refused r k ]) (m ∷ ms)) (last_of (m ∷ ms))
+          ≡ elim v [ Ok g ↦ cover_from q.taken q.given (k + 1) g (m ∷ ms) | Err r ↦ refused r k ]
       go (Ok g) e later =
           let less : left g < left h = fewer h g l e in
           let n : min k most_cover_lines ≡ k = omega arith in
-          ap (λ (n : ℕ). closed_by q (whole_reached (Reached.Line (n + 1) g) (m ∷ ms)) (last_of (m ∷ ms))) n ∙ later g (omega arith)
+          ap (λ (n : ℕ). closed_by q (whole_reached (at_line (n + 1) g) (m ∷ ms)) (last_of (m ∷ ms))) n ∙ later g (omega arith)
       go (Err r) e later = ap (λ (p : Reached). closed_by q p (last_of (m ∷ ms))) (refused-stays r k (m ∷ ms))
 
-  pub whole-tables : (k : ℕ) (h : CoverHeads) (ls : List (List ℕ)) (t : List ℕ × List ℕ) → whole_tables q (Reached.Line k h) ls t ≡ tables_from q h ls t
+  pub whole-tables : (k : ℕ) (h : CoverHeads) (ls : List (List ℕ)) (t : List ℕ × List ℕ) → whole_tables q (at_line k h) ls t ≡ tables_from q h ls t
   unfolding whole_tables tables_from line_reached line_tables
   whole-tables k h [] t = refl
   whole-tables k h (l ∷ []) t = refl
   whole-tables k h (l ∷ (m ∷ ms)) t = go (cover_line h l) (λ n g. whole-tables n g (m ∷ ms) (row_laid q h g l t))
     where
-      go : (v : Result CoverHeads Refusal) → ((n : ℕ) (g : CoverHeads) → whole_tables q (Reached.Line n g) (m ∷ ms) (row_laid q h g l t) ≡ tables_from q g (m ∷ ms) (row_laid q h g l t))
-          → whole_tables q (elim v [ Ok g ↦ Reached.Line (min k most_cover_lines + 1) g | Err r ↦ Reached.Refused r k ]) (m ∷ ms) (elim v [ Ok g ↦ row_laid q h g l t | Err r ↦ t ])
+      go : (v : Result CoverHeads Refusal) → ((n : ℕ) (g : CoverHeads) → whole_tables q (at_line n g) (m ∷ ms) (row_laid q h g l t) ≡ tables_from q g (m ∷ ms) (row_laid q h g l t))
+          → whole_tables q (elim v [ Ok g ↦ at_line (min k most_cover_lines + 1) g | Err r ↦ refused r k ]) (m ∷ ms) (elim v [ Ok g ↦ row_laid q h g l t | Err r ↦ t ])
           ≡ elim v [ Ok g ↦ tables_from q g (m ∷ ms) (row_laid q h g l t) | Err r ↦ t ]
       go (Ok g) later = later (min k most_cover_lines + 1) g
       go (Err r) later = refused-lays q r k (m ∷ ms) t
 
   -- from the start
-  pub cover-verdict : (text : List ℕ) → closed_by q (whole_reached (Reached.Line 1 no_heads) (lines_of text)) (last_of (lines_of text)) ≡ cover_reading q.taken q.given (lines_of text)
+  pub cover-verdict : (text : List ℕ) → closed_by q (whole_reached (at_line 1 no_heads) (lines_of text)) (last_of (lines_of text)) ≡ cover_reading q.taken q.given (lines_of text)
   unfolding cover_reading
   cover-verdict text = whole-verdict 1 no_heads (lines_of text) (split-some lf text) (omega arith)
 
 -- a piece from the start that is the whole text, and its end
-module _ (q : Reader) (text : List ℕ) {p : Reached} (first : p ≡ Reached.Line 1 no_heads) {r : Piece} (e : r ≡ piece_from p text) where
+module _ (q : Reader) (text : List ℕ) {p : Reached} (first : p ≡ at_line 1 no_heads) {r : Piece} (e : r ≡ piece_from p text) where
   pub read-within : r.taken ≤ length text
   read-within = rw e (taken-within p text)
 

@@ -1,16 +1,26 @@
 -- A cover in pieces: where its whole lines come to from a place, and the rows that they lay.
-use Rattle.std.specs.Prelude.{List, [], ◌∷◌, ℕ, ◌+◌, ◌-◌, min, length, Ok, Err}
+use Rattle.std.specs.Prelude.{List, [], ◌∷◌, ℕ, ◌+◌, ◌-◌, min, length, Ok, Err, Result}
 use Rattle.rules.specs.Text.{split, lines_of}
 use Rattle.rules.specs.CheckTexts.{cover_line, cover_end}
-use Rattle.rules.specs.declared.Verdict.{Verdict}
+use Rattle.rules.specs.Refusals.{Verdict, refused}
 use Rattle.judge_reading.specs.Tables.{row_laid}
 use Rattle.judge_reading.specs.declared.Reader.{Reader}
-use Rattle.judge_reading.specs.declared.Reached.{Reached}
 use Rattle.judge_reading.specs.declared.Piece.{Piece}
+use Rattle.judge_reading.specs.declared.Place.{Place}
+use Rattle.rules.specs.declared.CoverHeads.{CoverHeads}
+use Rattle.rules.specs.declared.Refused.{Refused}
 
 -- the longest good cover: four lines, 256 rows and `.e`
 abbrev pub most_cover_lines : ℕ
 most_cover_lines = 261
+
+-- what the lines of a cover come to: a place, or the refusal of one of them
+abbrev pub Reached : Type 0
+Reached = Result Place Refused
+
+-- the place before that line, with what the lines before it say
+abbrev pub at_line : ℕ → CoverHeads → Reached
+at_line k h = Ok (record { line = k; heads = h })
 
 -- what stands behind the last LF
 unfoldable pub last_of : List (List ℕ) → List ℕ
@@ -21,13 +31,13 @@ last_of (l ∷ (m ∷ ms)) = last_of (m ∷ ms)
 -- one line further; no place lies further on than behind the longest good cover
 unfoldable pub line_reached : Reached → List ℕ → Reached
 unfolding cover_line
-line_reached (Reached.Line k h) l = elim (cover_line h l) [ Ok g ↦ Reached.Line (min k most_cover_lines + 1) g | Err r ↦ Reached.Refused r k ]
-line_reached (Reached.Refused r k) l = Reached.Refused r k
+line_reached (Ok p) l = elim (cover_line p.heads l) [ Ok g ↦ at_line (min p.line most_cover_lines + 1) g | Err r ↦ refused r p.line ]
+line_reached (Err why) l = Err why
 
 unfoldable pub line_tables : Reader → Reached → List ℕ → List ℕ × List ℕ → List ℕ × List ℕ
 unfolding cover_line row_laid
-line_tables q (Reached.Line k h) l t = elim (cover_line h l) [ Ok g ↦ row_laid q h g l t | Err r ↦ t ]
-line_tables q (Reached.Refused r k) l t = t
+line_tables q (Ok p) l t = elim (cover_line p.heads l) [ Ok g ↦ row_laid q p.heads g l t | Err r ↦ t ]
+line_tables q (Err why) l t = t
 
 -- the whole lines: all but what stands behind the last LF
 unfoldable pub whole_reached : Reached → List (List ℕ) → Reached
@@ -50,5 +60,5 @@ piece_from p text = record { reached = whole_reached p (lines_of text); taken = 
 -- the end of a cover, behind its last LF
 unfoldable pub closed_by : Reader → Reached → List ℕ → Verdict
 unfolding cover_end
-closed_by q (Reached.Line k h) rest = cover_end q.taken q.given k h rest
-closed_by q (Reached.Refused r k) rest = Verdict.Refused r k
+closed_by q (Ok p) rest = cover_end q.taken q.given p.line p.heads rest
+closed_by q (Err why) rest = Err why

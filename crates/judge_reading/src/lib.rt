@@ -5,12 +5,11 @@ ghost use Rattle.std.specs.Prelude.{◌≡◌};
 ghost use Rattle.rules.specs.Text.{lines_of};
 ghost use Rattle.rules.specs.CheckTexts.{no_heads, is_over, cover_end, cover_reading};
 ghost use Rattle.judge_reading.specs.Tables.{row_laid, tables_from};
-ghost use Rattle.judge_reading.specs.Pieces.{line_reached, line_tables, whole_tables, piece_from, closed_by};
-ghost use Rattle.judge_reading.specs.declared.Reached.{Reached};
+ghost use Rattle.judge_reading.specs.Pieces.{at_line, line_reached, line_tables, whole_tables, piece_from, closed_by};
 
 use judge_search::{FIRES_WORDS, LISTING_ROWS, SAYS_WORDS};
 use read_pieces::cut;
-use rules::{CodeTable, CoverHeads, CoverPart, Refusal, Verdict};
+use rules::{CodeTable, CoverHeads, CoverPart, Refusal, Refused};
 
 // The lines of the longest good cover: `.i`, `.o`, `.type fd`, `.p`, 256 rows and `.e`.
 const MOST_COVER_LINES: usize = 261;
@@ -25,32 +24,32 @@ pub struct Reader {
     pub codes: CodeTable,
 }
 
-// A place in a cover: the number of the line to come and what the lines before it said, or why and where one was refused.
+// A place in a cover: the number of the line to come, and what the lines before it said.
 #[derive(Clone, Copy)]
-pub enum Reached {
-    Line(usize, CoverHeads),
-    Refused(Refusal, usize),
+pub struct Place {
+    pub line: usize,
+    pub heads: CoverHeads,
 }
 
-// What the whole lines of a piece come to, and how many of its bytes they are.
+// What the whole lines of a piece come to, a place or the refusal of a line, and how many of its bytes they are.
 #[derive(Clone, Copy)]
 pub struct Piece {
-    pub reached: Reached,
+    pub reached: Result<Place, Refused>,
     pub taken: usize,
 }
 
 // Before the first line.
-pub fn start() -> Reached
-    ensures { result ≡ Reached.Line 1 no_heads }
+pub fn start() -> Result<Place, Refused>
+    ensures { result ≡ at_line 1 no_heads }
 {
-    let none = CoverHeads {
+    let heads = CoverHeads {
         part: CoverPart::Inputs,
         inputs: 0,
         outputs: 0,
         products: 0,
         rows: 0,
     };
-    Reached::Line(1, none)
+    Ok(Place { line: 1, heads })
 }
 
 // The line between the heads h and g in the tables, where it is a row of a cover that fits.
@@ -89,29 +88,23 @@ fn put_row(
 }
 
 // Whether the end line has come.
+#[tactic(auto, unfolding(rules::specs::CheckTexts::is_over))]
 fn is_over(part: CoverPart) -> bool
     ensures { result ≡ is_over part }
 {
-    match part {
-        CoverPart::Over => true,
-        CoverPart::Inputs => false,
-        CoverPart::Outputs => false,
-        CoverPart::Kind => false,
-        CoverPart::Products => false,
-        CoverPart::Rows => false,
-    }
+    matches!(part, CoverPart::Over)
 }
 
 // What stands behind the last LF, as line k.
-fn end_of(q: Reader, k: usize, h: CoverHeads, l: &[u8]) -> Verdict
+fn end_of(q: Reader, k: usize, h: CoverHeads, l: &[u8]) -> Result<(), Refused>
     ensures { result ≡ cover_end q.taken q.given k h l.now }
 {
     if l.len() != 0 {
-        return Verdict::Refused(Refusal::BadLine, k);
+        return Err(Refusal::BadLine.at(k));
     }
     let part = h.part;
     if !is_over(part) {
-        return Verdict::Refused(Refusal::BadLine, k);
+        return Err(Refusal::BadLine.at(k));
     }
     judge_cover::fit_of(q.taken, q.given, h)
 }
@@ -119,25 +112,22 @@ fn end_of(q: Reader, k: usize, h: CoverHeads, l: &[u8]) -> Verdict
 // A line, from a place in a cover on, with its row in the tables: the place behind it.
 fn read_line(
     q: Reader,
-    from: Reached,
+    from: Result<Place, Refused>,
     l: &[u8],
     fires: &mut [u64; FIRES_WORDS],
     says: &mut [u64; SAYS_WORDS],
-) -> Reached
+) -> Result<Place, Refused>
     ensures place { result ≡ line_reached from l.now }
     ensures tables { (fires.new, says.new) ≡ line_tables q from l.now (fires.old, says.old) }
 {
-    match from {
-        Reached::Refused(r, k) => Reached::Refused(r, k),
-        Reached::Line(k, h) => {
-            let got = judge_cover::line_said(h, l);
-            match got {
-                Err(r) => Reached::Refused(r, k),
-                Ok(g) => {
-                    put_row(q, h, g, l, fires, says);
-                    Reached::Line(sets::least(k, MOST_COVER_LINES) + 1, g)
-                }
-            }
+    let at = from?;
+    let got = judge_cover::line_said(at.heads, l);
+    match got {
+        Err(r) => Err(r.at(at.line)),
+        Ok(heads) => {
+            put_row(q, at.heads, heads, l, fires, says);
+            let line = sets::least(at.line, MOST_COVER_LINES) + 1;
+            Ok(Place { line, heads })
         }
     }
 }
@@ -145,7 +135,7 @@ fn read_line(
 // The whole lines of a piece, from a place in a cover on. The rows that were read before a refusal stay in the tables.
 pub fn read_piece(
     q: Reader,
-    from: Reached,
+    from: Result<Place, Refused>,
     piece: &[u8],
     fires: &mut [u64; FIRES_WORDS],
     says: &mut [u64; SAYS_WORDS],
@@ -165,12 +155,12 @@ pub fn read_piece(
 }
 
 // The verdict at the end of a cover, from a place in it and what stands behind its last LF.
-pub fn close(q: Reader, reached: Reached, rest: &[u8]) -> Verdict
+pub fn close(q: Reader, reached: Result<Place, Refused>, rest: &[u8]) -> Result<(), Refused>
     ensures { result ≡ closed_by q reached rest.now }
 {
     match reached {
-        Reached::Refused(r, k) => Verdict::Refused(r, k),
-        Reached::Line(k, h) => end_of(q, k, h, rest),
+        Err(why) => Err(why),
+        Ok(at) => end_of(q, at.line, at.heads, rest),
     }
 }
 
@@ -180,7 +170,7 @@ pub fn read_cover(
     text: &[u8],
     fires: &mut [u64; FIRES_WORDS],
     says: &mut [u64; SAYS_WORDS],
-) -> Verdict
+) -> Result<(), Refused>
     ensures verdict { result ≡ cover_reading q.taken q.given (lines_of text.now) }
     ensures tables { (fires.new, says.new) ≡ tables_from q no_heads (lines_of text.now) (fires.old, says.old) }
 {

@@ -2,8 +2,8 @@
 use Rattle.judge_reading.proofs.Laws.{closed-refused, closed-line}
 use Rattle.judge_reading.proofs.close.Goals as goal
 
-pub returns-in-Refused : goal.returns-in-Refused
-returns-in-Refused c = closed-refused _ _ c.in-Refused.is
+pub returns-in-Err : goal.returns-in-Err
+returns-in-Err c = closed-refused _ _ c.in-Err.is
 
-pub returns-in-Line : goal.returns-in-Line
-returns-in-Line c = closed-line _ _ c.in-Line.is c.end_of.ensures
+pub returns-in-Ok : goal.returns-in-Ok
+returns-in-Ok c = closed-line _ _ c.in-Ok.is c.end_of.ensures
