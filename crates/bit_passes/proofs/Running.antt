@@ -53,9 +53,6 @@ module _ (n : ℕ) (rs : List Requirement) (b₀ p₀ l₀ k : ℕ) where
     pub passes_fit : p < 2 ^ 64
     pub looks_fit : l < 2 ^ 64
 
-  pub running-first : p₀ < 2 ^ 64 → l₀ < 2 ^ 64 → Running b₀ p₀ l₀ k
-  running-first h g = record { counts = λ m. refl; passes_fit = h; looks_fit = g }
-
   module _ (b p l left p' l' : ℕ) (q : Passed) (some : 0 < left) (e : q ≡ passed n rs b) (ep : p' ≡ (p + 1) % 2 ^ 64) (el : l' ≡ (l + q.looks) % 2 ^ 64) (g : Running b p l left) where
     pub running_more : (left' : ℕ) → left ≡ left' + 1 → level < q.level → Running q.bit p' l' left'
     running_more left' one gain = record {
@@ -88,14 +85,7 @@ module _ (n : ℕ) (rs : List Requirement) (b₀ p₀ l₀ k : ℕ) where
     looks_fit = g.looks_fit;
   }
 
--- none follows a pass that gained nothing
-pub ran-done : (n : ℕ) (rs : List Requirement) (k : ℕ) (w : Run) → w.done ≡ true → w.passes < 2 ^ 64 → w.looks < 2 ^ 64 → Ran n rs k w w
-ran-done n rs k w d h g = record { goes = λ m. rw d refl; passes_fit = h; looks_fit = g }
-
 -- what is built, where none follows
-pub built-done : (m n : ℕ) (rs : List Requirement) (w : Run) → w.done ≡ true → ◌≡◌ {A = Built} (record { bit = w.bit; passes = w.passes; looks = w.looks }) (ran_on m n rs w)
-built-done m n rs w d = rw d refl
-
 pub built-end : (n : ℕ) (rs : List Requirement) (w : Run) → w.passes < 2 ^ 64 → w.looks < 2 ^ 64 → ◌≡◌ {A = Built} (record { bit = w.bit; passes = w.passes; looks = w.looks }) (ran_on 0 n rs w)
 built-end n rs w h g = go w.done
   where

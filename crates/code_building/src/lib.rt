@@ -27,15 +27,8 @@ fn build_bits(n: usize, most: usize, fs: &mut [u64], bits: &mut [u64]) -> Coded
     let mut live = bit_live::count_live(n, &bits[..width], &fs[..left]);
     let mut passes: u64 = 0;
     let mut looks: u64 = 0;
-    while width < most {
-        if live == 0 {
-            return Coded {
-                width,
-                live,
-                passes,
-                looks,
-            };
-        }
+    // The width counts the bits that are built; how many that will be shows only once nothing is live.
+    while width < most && live != 0 {
         let a = bit_next::add_bit(n, &bits[..width], &mut fs[..left]);
         bits[width] = a.bit;
         width += 1;

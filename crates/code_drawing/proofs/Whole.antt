@@ -10,7 +10,7 @@ use Rattle.rules.specs.Listing.{rows_of, dichotomies_of}
 use Rattle.rules.specs.declared.Row.{Row}
 use Rattle.rules.specs.declared.Requirement.{Requirement}
 use Rattle.rules.specs.declared.Listing.{Listing}
-use Rattle.code_drawing.specs.Drawing.{with_groups, pair_words, pairs_of, dichotomy_words, group_families, first_families, all_families, Drew}
+use Rattle.code_drawing.specs.Drawing.{with_groups, pair_words, pairs_of, dichotomy_words, first_families, all_families, Drew}
 use Rattle.code_drawing.proofs.Growing.{drew-then, drew-as, drew-words}
 use Rattle.code_drawing.proofs.Groups.{rows-length}
 
@@ -24,10 +24,6 @@ pairs-length n i (suc k) = omega (arith, pairs-length n (suc i) k)
 module _ (t : Listing) (long : length t.table ≡ most_rows) where
   pub few-rows : length (rows_of t) ≤ most_rows
   few-rows = omega (arith, length-take t.rows t.table)
-
-  pub few-groups : length (group_families t) ≤ 3 * most_rows
-  unfolding group_families
-  few-groups = omega (arith, few-rows, (rows-length t.head.states (rows_of t) []).1)
 
   pub few-first : length (first_families t) ≤ 3 * most_states + 3 * most_rows
   unfolding first_families

@@ -13,7 +13,7 @@ use Rattle.rules.specs.declared.Requirement.{Requirement}
 use Rattle.rules.proofs.Good.{AllGood, apart-and}
 use Rattle.move_table.specs.Table.{level}
 use Rattle.families.specs.Families.{requirements_in}
-use Rattle.move_table.specs.Moves.{moved, looked}
+use Rattle.move_table.specs.Moves.{looked}
 use Rattle.move_table.proofs.Lists.{looked-le}
 use Rattle.move_table.proofs.Ready.{Ready}
 use Rattle.move_table.proofs.Shows.{Shows, shows-filled, shows-moved}

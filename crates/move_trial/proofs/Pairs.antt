@@ -1,5 +1,5 @@
 -- Two block lists as requirements, as a loop over their places meets them.
-use Rattle.std.proofs.Common.{◌≡◌, ℕ, ◌+◌, ◌^◌, ◌<◌, ◌≤◌, Bool, true, false, ◌&&◌, eqb, List, [], ◌∷◌, length, get_or, drop, sym, refl, ap, ◌∙◌, ap₂, lt_of_lt_of_le, add-one, drop_of_length-le, drop-cons, pow_mono, lt-ltb}
+use Rattle.std.proofs.Common.{◌≡◌, ℕ, ◌^◌, ◌<◌, ◌≤◌, Bool, true, false, ◌&&◌, ◌⊎◌, ⊎_elim, arith, eqb, List, [], ◌∷◌, length, sym, refl, ap, ◌∙◌, ap₂, lt_of_lt_of_le, pow_mono, lt-ltb}
 use lib.Bits.{bit_and}
 use Rattle.rules.specs.Requirements.{asks}
 use Rattle.rules.specs.Trial.{within, paired, all_sound}
@@ -12,41 +12,24 @@ within-wide n m h l = sym (lt-ltb m (2 ^ n) (lt_of_lt_of_le l (pow_mono h)))
 abbrev sound_one : ℕ → ℕ → ℕ → Bool
 sound_one n f g = within n f && within n g && eqb (bit_and f g) 0
 
--- ---- place i
+-- ---- the first place, and those behind it
 
-module _ (fs gs : List ℕ) (i : ℕ) where
-  -- the requirement of place i, and those behind it
-  pub paired-more : i < length fs → i < length gs
-      → paired (drop i fs) (drop i gs) ≡ asks (get_or fs i 0) (get_or gs i 0) ∷ paired (drop (i + 1) fs) (drop (i + 1) gs)
+module _ (n f g : ℕ) (fs gs fs' gs' : List ℕ) (e : fs ≡ f ∷ fs') (k : gs ≡ g ∷ gs') where
+  paired-more : paired fs gs ≡ asks f g ∷ paired fs' gs'
   unfolding paired
-  paired-more h k =
-      ap₂ paired
-      (drop-cons fs i 0 h ∙ ap (λ (j : ℕ). get_or fs i 0 ∷ drop j fs) (sym (add-one i)))
-      (drop-cons gs i 0 k ∙ ap (λ (j : ℕ). get_or gs i 0 ∷ drop j gs) (sym (add-one i)))
+  paired-more = ap₂ paired e k
 
-  -- where one list ends, there are no more
-  pub paired-first-end : length fs ≤ i → paired (drop i fs) (drop i gs) ≡ []
-  unfolding paired
-  paired-first-end h = ap (λ (l : List ℕ). paired l (drop i gs)) (drop_of_length-le fs {i = i} h)
+  pub sound_more : sound_one n f g ≡ true → all_sound n (paired fs gs) ≡ all_sound n (paired fs' gs')
+  unfolding all_sound
+  sound_more t = ap (all_sound n) paired-more ∙ ap (λ (u : Bool). u && all_sound n (paired fs' gs')) t
 
-  pub paired-second-end : length gs ≤ i → paired (drop i fs) (drop i gs) ≡ []
-  unfolding paired
-  paired-second-end h = ap (paired (drop i fs)) (drop_of_length-le gs {i = i} h) ∙ none (drop i fs)
-    where
-      none : (l : List ℕ) → paired l [] ≡ []
-      none [] = refl
-      none (f ∷ l) = refl
+  pub sound-not : sound_one n f g ≡ false → all_sound n (paired fs gs) ≡ false
+  unfolding all_sound
+  sound-not t = ap (all_sound n) paired-more ∙ ap (λ (u : Bool). u && all_sound n (paired fs' gs')) t
 
-  module _ (n : ℕ) where
-    pub sound_more : i < length fs → i < length gs → sound_one n (get_or fs i 0) (get_or gs i 0) ≡ true
-        → all_sound n (paired (drop i fs) (drop i gs)) ≡ all_sound n (paired (drop (i + 1) fs) (drop (i + 1) gs))
-    unfolding all_sound
-    sound_more h k e = ap (all_sound n) (paired-more h k) ∙ ap (λ (t : Bool). t && all_sound n (paired (drop (i + 1) fs) (drop (i + 1) gs))) e
-
-    pub sound-not : i < length fs → i < length gs → sound_one n (get_or fs i 0) (get_or gs i 0) ≡ false → all_sound n (paired (drop i fs) (drop i gs)) ≡ false
-    unfolding all_sound
-    sound-not h k e = ap (all_sound n) (paired-more h k) ∙ ap (λ (t : Bool). t && all_sound n (paired (drop (i + 1) fs) (drop (i + 1) gs))) e
-
-    pub sound-end : paired (drop i fs) (drop i gs) ≡ [] → all_sound n (paired (drop i fs) (drop i gs)) ≡ true
-    unfolding all_sound
-    sound-end e = ap (all_sound n) e
+-- where one list ends, there are no more
+pub sound-end : (n : ℕ) (fs gs : List ℕ) → (length fs ≡ 0) ⊎ (length gs ≡ 0) → all_sound n (paired fs gs) ≡ true
+unfolding all_sound paired
+sound-end n [] gs h = refl
+sound-end n (f ∷ fs) [] h = refl
+sound-end n (f ∷ fs) (g ∷ gs) h = absurd (⊎_elim (λ e. omega arith) (λ e. omega arith) h)

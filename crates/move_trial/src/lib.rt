@@ -41,12 +41,10 @@ fn families_of(firsts: &[u64], seconds: &[u64]) -> [u64; WORDS]
     ensures { result ≡ stored firsts.now seconds.now }
 {
     let mut t = [0; WORDS];
-    let mut i: usize = 0;
-    while i < firsts.len() {
+    for i in 0..firsts.len() {
         t[3 * i] = firsts[i] | seconds[i];
         t[3 * i + 1] = seconds[i];
         t[3 * i + 2] = 0;
-        i += 1;
     }
     t
 }
@@ -128,7 +126,7 @@ fn next_of(t: Trial, s: usize) -> Trial
         count,
         bit: sets::flipped(bit, s),
         moved: sets::flipped(t.moved, s),
-        looks: std::num::wrapping_add_u64(t.looks, looks as u64),
+        looks: t.looks.wrapping_add(looks as u64),
         families,
         table,
     }

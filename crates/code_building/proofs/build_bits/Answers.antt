@@ -18,8 +18,8 @@ fits c = sum_fits _ _ _ _ c.requires _ _ _ _ _ _ _ c.loop-width.invariant.0 _ _ 
 pub loop-width-init : goal.loop-width-init
 loop-width-init c = (running-start _ _ _ _ c.requires c.count_live-live.result c.count_live-live.ensures, refl, refl)
 
-pub returns-then-live-eq0 : goal.returns-then-live-eq0
-returns-then-live-eq0 c = running_none _ _ _ _ c.requires _ _ _ _ _ _ _ c.loop-width.invariant.0 c.if-live-eq0.true
+pub returns-else-live-ne0 : goal.returns-else-live-ne0
+returns-else-live-ne0 c = running_none _ _ _ _ c.requires _ _ _ _ _ _ _ c.loop-width.invariant.0 c.if-live-ne0.false
 
 pub slice_bounds-count_live-end-in-loop-width-3 : goal.slice_bounds-count_live-end-in-loop-width-3
 slice_bounds-count_live-end-in-loop-width-3 c = left_there (goal.at.slice_bounds-count_live-end-in-loop-width-3 c).After-add_bit-a
@@ -35,10 +35,10 @@ overflow_add-looks c = record { fits = (fits (goal.at.overflow_add-looks c).Afte
 
 pub loop-width-preserved : goal.loop-width-preserved
 loop-width-preserved c = (
-  running_more _ _ _ _ c.requires _ _ _ _ _ _ _ c.loop-width.invariant.0 _ _ _ _ _ c.add_bit-a.ensures _ c.add_bit-a.auto.fs c.loop-width-test.true c.if-live-eq0.false c.count_live-live-in-loop-width.ensures,
+  running_more _ _ _ _ c.requires _ _ _ _ _ _ _ c.loop-width.invariant.0 _ _ _ _ _ c.add_bit-a.ensures _ c.add_bit-a.auto.fs c.loop-width-test.true c.if-live-ne0.true c.count_live-live-in-loop-width.ensures,
   same-words c.loop-width.left c.loop-width.fs c.add_bit-a.new.fs c.add_bit-a.auto.fs ∙ c.loop-width.invariant.1,
   length-set c.loop-width.bits c.loop-width.width c.add_bit-a.result.bit ∙ c.loop-width.invariant.2,
 )
 
-pub returns : goal.returns
-returns c = running-end _ _ _ _ c.requires _ _ _ _ _ _ _ c.loop-width.invariant.0 c.loop-width-test.false
+pub returns-after-loop-width : goal.returns-after-loop-width
+returns-after-loop-width c = running-end _ _ _ _ c.requires _ _ _ _ _ _ _ c.loop-width.invariant.0 c.loop-width-test.false
