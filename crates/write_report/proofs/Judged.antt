@@ -3,10 +3,9 @@ use Rattle.std.specs.Prelude.{Option, Some, None}
 use mathlib.Core.Path.{◌≡◌, refl, sym, ap, ap₂, ◌∙◌}
 use mathlib.Core.Bool.{not}
 use mathlib.Core.List.{List, [], ◌∷◌, ◌++◌, map}
-use Prim.Native.Nat.{ℕ, suc, ◌+◌, ◌^◌, ◌≤◌, ◌<◌}
+use Prim.Native.Nat.{ℕ, suc, ◌+◌, ◌≤◌}
 use native.Mathlib.Numerals.{add-one}
 use native.Mathlib.Omega.{arith}
-use lib.ListN.{length}
 use Rattle.rules.specs.Text.{digit}
 use Rattle.rules.specs.Requirements.{judgement, is_by}
 use Rattle.rules.specs.Code.{unmet_from}
@@ -17,9 +16,6 @@ use Rattle.rules.proofs.Judged.{met-judged, unmet-judged}
 use Rattle.rules.proofs.Unmet.{listed-met, listed-unmet}
 use Rattle.rules.proofs.Good.{AllGood}
 use Rattle.rules.proofs.Reported.{lines-by, lines_none}
-use Rattle.code_walking.specs.Walking.{ahead, here, next}
-use Rattle.code_walking.specs.declared.Walk.{Walk}
-use Rattle.code_walking.proofs.Ahead.{over_none, ahead_step}
 use Rattle.code_judging.proofs.Wide.{judged-wide}
 use Rattle.write_parts.specs.Parts.{added_all}
 use Rattle.write_parts.proofs.Adding.{Lent, added_none, all_more}
@@ -53,30 +49,22 @@ none-missed k None e = absurd (omega arith)
 
 -- ---- one line, and those behind it
 
-pub lines-behind : (l : Listed) (k : ℕ) (bits : List ℕ) (r : Requirement) (rs : List Requirement)
-    → lines_of l k bits (r ∷ rs) ≡ line_for l k (judgement 64 bits r) ∷ lines_of l (suc k) bits rs
-unfolding lines_of
-lines-behind l k bits r rs = refl
-
-module _ (l : Listed) (k : ℕ) (bits fs : List ℕ) (w : Walk) where
-  pub lines_more : w.at + 3 ≤ length fs → w.rest < 2 ^ 64
-      → line_for l k (judgement 64 bits (here fs w)) ∷ lines_of l (k + 1) bits (ahead fs (next fs w)) ≡ lines_of l k bits (ahead fs w)
-  lines_more h fits =
-      sym (ap (lines_of l k bits) (ahead_step fs w h fits)
-      ∙ lines-behind l k bits (here fs w) (ahead fs (next fs w))
-      ∙ ap (λ (j : ℕ). line_for l k (judgement 64 bits (here fs w)) ∷ lines_of l j bits (ahead fs (next fs w))) (sym (add-one k)))
-
-  pub lines_end : length fs < w.at + 3 → lines_of l k bits (ahead fs w) ≡ []
+module _ (l : Listed) (k : ℕ) (bits : List ℕ) {ahead : List Requirement} where
+  pub lines_more : {r : Requirement} {rs : List Requirement} → ahead ≡ r ∷ rs → line_for l k (judgement 64 bits r) ∷ lines_of l (k + 1) bits rs ≡ lines_of l k bits ahead
   unfolding lines_of
-  lines_end h = ap (lines_of l k bits) (over_none fs w h)
+  lines_more {r} {rs} e = ap (λ (j : ℕ). line_for l k (judgement 64 bits r) ∷ lines_of l j bits rs) (add-one k) ∙ sym (ap (lines_of l k bits) e)
+
+  pub lines_end : ahead ≡ [] → lines_of l k bits ahead ≡ []
+  unfolding lines_of
+  lines_end e = ap (lines_of l k bits) e
 
 -- one that is not missed adds nothing to the lines of those that are not met
-pub none_here : (k : ℕ) (bits fs : List ℕ) (w : Walk) → w.at + 3 ≤ length fs → w.rest < 2 ^ 64 → digit (not (is_by (judgement 64 bits (here fs w)))) ≡ 0 → (s : Lent)
-    → added_all (lines_of Listed.Unmet k bits (ahead fs w)) s ≡ added_all (lines_of Listed.Unmet (k + 1) bits (ahead fs (next fs w))) s
-none_here k bits fs w h fits z s =
-    let ls : List (List ℕ) = lines_of Listed.Unmet (k + 1) bits (ahead fs (next fs w)) in
-    ap (λ (ms : List (List ℕ)). added_all ms s) (sym (lines_more Listed.Unmet k bits fs w h fits))
-    ∙ ap (λ (m : List ℕ). added_all (m ∷ ls) s) (none-missed k (judgement 64 bits (here fs w)) z)
+pub none_here : (k : ℕ) (bits : List ℕ) {ahead rs : List Requirement} {r : Requirement} → ahead ≡ r ∷ rs → digit (not (is_by (judgement 64 bits r))) ≡ 0 → (s : Lent)
+    → added_all (lines_of Listed.Unmet k bits ahead) s ≡ added_all (lines_of Listed.Unmet (k + 1) bits rs) s
+none_here k bits {ahead} {rs} {r} e z s =
+    let ls : List (List ℕ) = lines_of Listed.Unmet (k + 1) bits rs in
+    ap (λ (ms : List (List ℕ)). added_all ms s) (sym (lines_more Listed.Unmet k bits e))
+    ∙ ap (λ (m : List ℕ). added_all (m ∷ ls) s) (none-missed k (judgement 64 bits r) z)
     ∙ all_more [] ls s
     ∙ ap (added_all ls) (added_none s)
 

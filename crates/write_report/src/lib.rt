@@ -14,6 +14,7 @@ ghost use Rattle.write_parts.specs.Parts.{added, added_all};
 ghost use Rattle.write_report.specs.declared.Listed.{Listed};
 ghost use Rattle.write_report.specs.Report.{state_lines, line_for, lines_of, most_words, encoded_lines};
 
+use code_walking::Requirements;
 use rules::{BitNumber, Encoding, RequirementNumber, StateNumber};
 use write_parts::Part;
 
@@ -66,11 +67,9 @@ fn add_states(out: &mut [u8], part: Part, bits: &[u64], n: usize) -> Part
     requires { length bits.now ≤ most_bits }
     ensures { (result, out.new) ≡ added_all (state_lines bits.now n) (part, out.old) }
 {
-    let mut i: usize = 0;
     let mut to = part;
-    while i < n {
+    for i in 0..n {
         to = add_state(out, to, bits, StateNumber(i));
-        i += 1;
     }
     to
 }
@@ -123,13 +122,10 @@ fn add_judged(
 }
 
 // 1 for a requirement that no bit meets, else 0.
-pub fn missed(judged: Option<BitNumber>) -> usize
+fn missed(judged: Option<BitNumber>) -> usize
     ensures { result ≡ digit (not (is_by judged)) }
 {
-    if judged.is_met() {
-        return 0;
-    }
-    1
+    usize::from(judged.is_none())
 }
 
 // The lines of the requirements that are met, or of those that are not, numbered from 0, until one does not fit. Where it comes upon none that is not
@@ -139,20 +135,15 @@ fn add_listed(out: &mut [u8], part: Part, bits: &[u64], fs: &[u64], listed: List
     ensures { ((result.part, out.new) ≡ added_all (lines_of listed 0 bits.now (requirements_in fs.now)) (part, out.old))
         × (result.unmet ≡ 0 → added_all (lines_of Listed.Unmet 0 bits.now (requirements_in fs.now)) (result.part, out.new) ≡ (result.part, out.new)) }
 {
-    let mut w = code_walking::enter(fs, 0);
-    let mut k: usize = 0;
     let mut unmet: usize = 0;
     let mut to = part;
-    while !code_walking::is_over(fs, w) {
+    for (k, asked) in Requirements::new(fs).enumerate() {
         if to.full {
             return Walked { part: to, unmet };
         }
-        let asked = code_walking::requirement(fs, w);
         let judged = code_judging::judge(bits, asked);
         to = add_judged(out, to, judged, RequirementNumber(k), listed);
         unmet += missed(judged);
-        w = code_walking::step(fs, w);
-        k += 1;
     }
     Walked { part: to, unmet }
 }
