@@ -84,15 +84,10 @@ fn put_judged(
 ) -> usize
     ensures { Wrote out.old at (line_for listed number.0 judged) result out.new }
 {
-    match judged {
-        Some(bit) => match listed {
-            Listed::Met => entries::put_met_line(out, at, number, bit),
-            Listed::Unmet => at,
-        },
-        None => match listed {
-            Listed::Met => at,
-            Listed::Unmet => entries::put_unmet_line(out, at, number),
-        },
+    match (listed, judged) {
+        (Listed::Met, Some(bit)) => entries::put_met_line(out, at, number, bit),
+        (Listed::Unmet, None) => entries::put_unmet_line(out, at, number),
+        _ => at,
     }
 }
 

@@ -89,5 +89,5 @@ returns c =
     let l = c.loop-k in
     let s : Lent = (l.to, l.out) in
     let none : (which : Listed) → added_all (lines_of which (enumerate_count l.k-iterator) a.bits.now (left (enumerate_source l.k-iterator))) s ≡ s =
-        λ which. ap (λ ls. added_all ls s) (lines_end which (enumerate_count l.k-iterator) a.bits.now c.in-None.ensures.steps.0.0) ∙ all_none s in
+    λ which. ap (λ ls. added_all ls s) (lines_end which (enumerate_count l.k-iterator) a.bits.now c.in-None.ensures.steps.0.0) ∙ all_none s in
     (sym (none a.listed) ∙ l.invariant.4, λ z. l.invariant.6 z s ∙ none Listed.Unmet)
