@@ -10,6 +10,7 @@ ghost use Rattle.write_parts.specs.Parts.{added, added_all};
 ghost use Rattle.write_report.specs.Report.{most_words};
 ghost use Rattle.write_widths.specs.Widths.{line_of, lines_to, encoded_lines};
 
+use code_walking::Requirements;
 use rules::Encoding;
 use write_parts::Part;
 
@@ -18,14 +19,9 @@ fn count_unmet(bits: &[u64], fs: &[u64]) -> usize
     requires { length fs.now ≤ most_words }
     ensures { result ≡ length (unmet_from 0 64 bits.now (requirements_in fs.now)) }
 {
-    let mut w = code_walking::enter(fs, 0);
-    let mut unmet: usize = 0;
-    while !code_walking::is_over(fs, w) {
-        let judged = code_judging::judge(bits, code_walking::requirement(fs, w));
-        unmet += write_report::missed(judged);
-        w = code_walking::step(fs, w);
-    }
-    unmet
+    Requirements::new(fs)
+        .filter(|r| code_judging::is_unmet(bits, *r))
+        .count()
 }
 
 // `WD width unmet covered`
@@ -35,10 +31,7 @@ fn put_width_line(out: &mut [u8], at: usize, width: usize, unmet: usize, covered
     let p = write_pen::put_bytes(out, at, b"WD ");
     let q = write_pen::put_field(out, p, width as u64, b' ');
     let r = write_pen::put_field(out, q, unmet as u64, b' ');
-    if covered {
-        return write_pen::put_field(out, r, 1, b'\n');
-    }
-    write_pen::put_field(out, r, 0, b'\n')
+    write_pen::put_field(out, r, u64::from(covered), b'\n')
 }
 
 // The same, added to a part.
@@ -72,11 +65,9 @@ fn add_lines(out: &mut [u8], part: Part, bits: &[u64], fs: &[u64], first: usize)
     requires { (length fs.now ≤ most_words) × (first ≤ length fs.now) }
     ensures { (result, out.new) ≡ added_all (lines_to fs.now (take first fs.now) bits.now (length bits.now)) (part, out.old) }
 {
-    let mut width: usize = 0;
     let mut to = part;
-    while width < bits.len() {
+    for width in 0..bits.len() {
         to = add_width(out, to, bits, fs, first, width + 1);
-        width += 1;
     }
     to
 }

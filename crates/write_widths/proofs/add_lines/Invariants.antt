@@ -2,15 +2,10 @@
 use Rattle.write_parts.specs.Parts.{added_all}
 use Rattle.write_parts.proofs.Adding.{Lent}
 use Rattle.write_widths.specs.Widths.{lines_to}
-use Prim.Native.Nat.{◌≤◌, ◌-◌}
 use mathlib.Core.Path.{◌≡◌}
-use lib.ListN.{length, take}
+use lib.ListN.{take}
 use Rattle.write_widths.proofs.add_lines.Given as goal
 
 abbrev pub invariant-loop-width : goal.invariant-loop-width
 invariant-loop-width l =
-    (l.width ≤ length l.bits) × (◌≡◌ {A = Lent} (l.to, l.out) (added_all (lines_to l.fs (take l.first l.fs) l.bits l.width) (l.initial.to, l.initial.out)))
-
-abbrev pub decreases-loop-width : goal.decreases-loop-width
-decreases-loop-width l =
-    length l.bits - l.width
+    ◌≡◌ {A = Lent} (l.to, l.out) (added_all (lines_to l.fs (take l.first l.fs) l.bits l.width) (l.initial.to, l.initial.out))
