@@ -3,10 +3,9 @@ use Rattle.std.specs.Prelude.{Option, Some, None}
 use mathlib.Core.Path.{◌≡◌, refl, sym, ap, ap₂, ◌∙◌}
 use mathlib.Core.Bool.{not}
 use mathlib.Core.List.{List, [], ◌∷◌, ◌++◌, map}
-use Prim.Native.Nat.{ℕ, suc, ◌+◌, ◌^◌, ◌≤◌, ◌<◌}
+use Prim.Native.Nat.{ℕ, suc, ◌+◌, ◌≤◌}
 use native.Mathlib.Numerals.{add-one}
 use native.Mathlib.Omega.{arith}
-use lib.ListN.{length}
 use Rattle.rules.specs.Text.{digit}
 use Rattle.rules.specs.Requirements.{judgement, is_by}
 use Rattle.rules.specs.Code.{unmet_from}
@@ -50,32 +49,24 @@ none-missed k None e = absurd (omega arith)
 
 -- ---- one line, and those behind it
 
-pub lines-behind : (l : Listed) (k : ℕ) (bits : List ℕ) (r : Requirement) (rs : List Requirement)
-    → lines_of l k bits (r ∷ rs) ≡ line_for l k (judgement 64 bits r) ∷ lines_of l (suc k) bits rs
-unfolding lines_of
-lines-behind l k bits r rs = refl
+module _ (l : Listed) (k : ℕ) (bits : List ℕ) {ahead : List Requirement} where
+  pub lines_more : {r : Requirement} {rs : List Requirement} → ahead ≡ r ∷ rs → line_for l k (judgement 64 bits r) ∷ lines_of l (k + 1) bits rs ≡ lines_of l k bits ahead
+  unfolding lines_of
+  lines_more {r} {rs} e = ap (λ (j : ℕ). line_for l k (judgement 64 bits r) ∷ lines_of l j bits rs) (add-one k) ∙ sym (ap (lines_of l k bits) e)
 
--- the first of some requirements, which has the number n, and those behind it
-module _ (bits : List ℕ) {n k m : ℕ} {r : Requirement} {rs rest : List Requirement} {j : Option BitNumber}
-    (first : rs ≡ r ∷ rest) (number : k ≡ n) (next : m ≡ n + 1) (judged : j ≡ judgement 64 bits r) where
-  pub lines_more : (l : Listed) → line_for l k j ∷ lines_of l m bits rest ≡ lines_of l n bits rs
-  lines_more l =
-      ap₂ (λ (i : ℕ) (q : Option BitNumber). line_for l i q ∷ lines_of l m bits rest) number judged
-      ∙ ap (λ (i : ℕ). line_for l n (judgement 64 bits r) ∷ lines_of l i bits rest) (next ∙ add-one n)
-      ∙ sym (ap (lines_of l n bits) first ∙ lines-behind l n bits r rest)
+  pub lines_end : ahead ≡ [] → lines_of l k bits ahead ≡ []
+  unfolding lines_of
+  lines_end e = ap (lines_of l k bits) e
 
-  -- one that is not missed adds nothing to the lines of those that are not met
-  pub none_here : digit (not (is_by j)) ≡ 0 → (s : Lent) → added_all (lines_of Listed.Unmet n bits rs) s ≡ added_all (lines_of Listed.Unmet m bits rest) s
-  none_here z s =
-      let ls : List (List ℕ) = lines_of Listed.Unmet m bits rest in
-      ap (λ (ms : List (List ℕ)). added_all ms s) (sym (lines_more Listed.Unmet))
-      ∙ ap (λ (l : List ℕ). added_all (l ∷ ls) s) (none-missed k j z)
-      ∙ all_more [] ls s
-      ∙ ap (added_all ls) (added_none s)
-
-pub lines_end : (l : Listed) (k : ℕ) (bits : List ℕ) {rs : List Requirement} → rs ≡ [] → lines_of l k bits rs ≡ []
-unfolding lines_of
-lines_end l k bits e = ap (lines_of l k bits) e
+-- one that is not missed adds nothing to the lines of those that are not met
+pub none_here : (k : ℕ) (bits : List ℕ) {ahead rs : List Requirement} {r : Requirement} → ahead ≡ r ∷ rs → digit (not (is_by (judgement 64 bits r))) ≡ 0 → (s : Lent)
+    → added_all (lines_of Listed.Unmet k bits ahead) s ≡ added_all (lines_of Listed.Unmet (k + 1) bits rs) s
+none_here k bits {ahead} {rs} {r} e z s =
+    let ls : List (List ℕ) = lines_of Listed.Unmet (k + 1) bits rs in
+    ap (λ (ms : List (List ℕ)). added_all ms s) (sym (lines_more Listed.Unmet k bits e))
+    ∙ ap (λ (m : List ℕ). added_all (m ∷ ls) s) (none-missed k (judgement 64 bits r) z)
+    ∙ all_more [] ls s
+    ∙ ap (added_all ls) (added_none s)
 
 -- ---- they are the report's
 

@@ -9,7 +9,7 @@ use rules::{BitNumber, RequirementNumber, StateNumber};
 fn put_code(out: &mut [u8], at: usize, bits: &[u64], s: StateNumber) -> usize
     ensures { Wrote out.old at (code_text (code_of bits.now s.0)) result out.new }
 {
-    if bits.len() == 0 {
+    if bits.is_empty() {
         return write_pen::put_byte(out, at, b'-');
     }
     write_pen::put_values(out, at, bits, sets::flipped(0, s.0), b'1')

@@ -84,15 +84,10 @@ fn put_judged(
 ) -> usize
     ensures { Wrote out.old at (line_for listed number.0 judged) result out.new }
 {
-    match judged {
-        Some(bit) => match listed {
-            Listed::Met => entries::put_met_line(out, at, number, bit),
-            Listed::Unmet => at,
-        },
-        None => match listed {
-            Listed::Met => at,
-            Listed::Unmet => entries::put_unmet_line(out, at, number),
-        },
+    match (listed, judged) {
+        (Listed::Met, Some(bit)) => entries::put_met_line(out, at, number, bit),
+        (Listed::Unmet, None) => entries::put_unmet_line(out, at, number),
+        _ => at,
     }
 }
 
@@ -122,13 +117,10 @@ fn add_judged(
 }
 
 // 1 for a requirement that no bit meets, else 0.
-pub fn missed(judged: Option<BitNumber>) -> usize
+fn missed(judged: Option<BitNumber>) -> usize
     ensures { result ≡ digit (not (is_by judged)) }
 {
-    match judged {
-        Some(_) => 0,
-        None => 1,
-    }
+    usize::from(judged.is_none())
 }
 
 // The lines of the requirements that are met, or of those that are not, numbered from 0, until one does not fit. Where it comes upon none that is not

@@ -19,11 +19,9 @@ fn count_unmet(bits: &[u64], fs: &[u64]) -> usize
     requires { length fs.now ≤ most_words }
     ensures { result ≡ length (unmet_from 0 64 bits.now (requirements_in fs.now)) }
 {
-    let mut unmet: usize = 0;
-    for asked in Requirements::new(fs) {
-        unmet += write_report::missed(code_judging::judge(bits, asked));
-    }
-    unmet
+    Requirements::new(fs)
+        .filter(|r| code_judging::is_unmet(bits, *r))
+        .count()
 }
 
 // `WD width unmet covered`
@@ -33,7 +31,7 @@ fn put_width_line(out: &mut [u8], at: usize, width: usize, unmet: usize, covered
     let p = write_pen::put_bytes(out, at, b"WD ");
     let q = write_pen::put_field(out, p, width as u64, b' ');
     let r = write_pen::put_field(out, q, unmet as u64, b' ');
-    write_pen::put_field(out, r, covered as u64, b'\n')
+    write_pen::put_field(out, r, u64::from(covered), b'\n')
 }
 
 // The same, added to a part.

@@ -7,28 +7,23 @@ use Rattle.rules.specs.Limits.{most_bits}
 use Rattle.rules.specs.Text.{bytes}
 use Rattle.families.specs.Families.{requirements_in}
 use Rattle.write_parts.specs.Parts.{added_all}
-use Rattle.write_parts.proofs.Adding.{Lent, all_one, all_first, all-behind}
-use Rattle.write_report.specs.Report.{state_lines, lines_of, encoded_lines}
+use Rattle.write_parts.proofs.Adding.{all_one, all_first, all-behind}
+use Rattle.write_report.specs.Report.{state_lines, lines_of}
 use Rattle.write_report.specs.declared.Listed.{Listed}
 use Rattle.write_report.proofs.Lines.{report-parts}
-use Rattle.write_report.proofs.add_report.Goals.{After-slice_known-6-1, Start}
+use Rattle.write_report.proofs.add_report.Goals.{Start}
 use Rattle.write_report.proofs.add_report.Goals as goal
 
 -- the places of the code
 long : (c : Start) → length c.args.e.bits ≡ most_bits
 long c = search rules
 
-whole : (c : After-slice_known-6-1)
-    → let a = c.args in
-    ◌≡◌ {A = Lent} (c.add_line.result, c.add_line.new.out) (added_all (encoded_lines a.n a.fs.now a.e) (a.part, a.out.now))
-whole c =
+pub returns : goal.returns
+returns c =
     let bits = take c.least-width.result c.args.e.bits in
     let rs = requirements_in (take c.least-end.result c.args.fs.now) in
     all_first _ _ _ _ _ c.add_counts-p.ensures
     (all-behind (state_lines bits c.args.n) _ _ _ _ c.add_states-q.ensures
     (all-behind (lines_of Listed.Met 0 bits rs) _ _ _ _ c.add_listed-r.ensures.0
     (all-behind (lines_of Listed.Unmet 0 bits rs) (bytes "EN\n" ∷ []) _ _ _ c.add_unmet-s.ensures (c.add_line.ensures ∙ sym (all_one (bytes "EN\n") _)))))
-    ∙ ap (λ (ls : List (List _)). added_all ls (c.args.part, c.args.out.now)) (report-parts c.args.n c.args.fs.now c.args.e (long c.before.before.before.before.before.before.before.before.before.before.before.before.before.before.before.before.before.before.before.before.before.before.before.before.before.before.before.before.before.before.before) c.least-width.ensures c.least-end.ensures)
-
-pub returns : goal.returns
-returns c = whole c
+    ∙ ap (λ (ls : List (List _)). added_all ls (c.args.part, c.args.out.now)) (report-parts c.args.n c.args.fs.now c.args.e (long (goal.at.returns c).Start) c.least-width.ensures c.least-end.ensures)

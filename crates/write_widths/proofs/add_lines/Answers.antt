@@ -5,7 +5,6 @@ use Rattle.write_widths.proofs.Lines.{lines_none, lines_more}
 use mathlib.Core.List.{List}
 use Prim.Native.Nat.{ℕ}
 use mathlib.Core.Path.{sym, ap, ◌∙◌}
-use native.Mathlib.Omega.{arith}
 use lib.ListN.{take}
 use Rattle.write_widths.proofs.add_lines.Goals as goal
 

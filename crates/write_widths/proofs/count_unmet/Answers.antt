@@ -1,36 +1,26 @@
--- `write_widths::count_unmet` meets its contract. The loop's invariant: those counted, and those still to come.
-use mathlib.Core.Bool.{not}
-use Rattle.rules.specs.Text.{digit}
-use Rattle.rules.specs.Requirements.{is_by}
-use Rattle.rules.specs.Code.{unmet_from}
-use Rattle.rules.specs.declared.Requirement.{Requirement}
+-- `write_widths::count_unmet` meets its contract: those that pass the test are counted.
+use Rattle.std.proofs.Common.{rules, tests}
+use Rattle.std.proofs.lemmas.Iterator.Consumers.{YieldsList-at, YieldsList-from_first, YieldsList-from_filter, count_from_yields_List}
+use Rattle.rules.specs.Requirements.{met_by_code}
 use Rattle.families.specs.Families.{requirements_in}
 use Rattle.families.proofs.Family.{families-few}
 use Rattle.code_walking.specs.Walking.{left}
-use Rattle.write_report.proofs.Length.{unmet-few}
-use Rattle.write_widths.proofs.Counted.{one_more, digit-most}
-use mathlib.Core.List.{List}
-use Prim.Native.Nat.{ℕ, ◌≤◌, ◌+◌}
-use mathlib.Core.Path.{◌≡◌, sym, ap, ◌∙◌}
+use Rattle.write_widths.proofs.Counted.{filtered}
+use mathlib.Core.Bool.{not}
+use mathlib.Core.Logic.{inl}
+use mathlib.Core.Path.{ap, ◌∙◌}
 use native.Mathlib.Omega.{arith}
 use lib.ListN.{length}
 use Rattle.write_widths.proofs.count_unmet.Goals as goal
 
-pub overflow_add-unmet : goal.overflow_add-unmet
-overflow_add-unmet c =
-    let a = c.args in
-    let few = unmet-few 0 64 a.bits.now (requirements_in a.fs.now) in
-    record { fits = omega (arith, c.loop-asked.invariant, few, families-few a.fs.now, c.requires, c.missed-unmet.ensures, digit-most (not (is_by c.judge.result))) }
-
-pub loop-asked-preserved : goal.loop-asked-preserved
-loop-asked-preserved c =
-    let bits = c.args.bits.now in
-    let first = ap (λ (rs : List Requirement). length (unmet_from 0 64 bits rs)) c.in-Some.ensures.steps ∙ one_more bits c.in-Some.asked _ in
-    let here = c.missed-unmet.ensures ∙ ap (λ j. digit (not (is_by j))) c.judge.ensures in
-    omega (arith, c.loop-asked.invariant, first, here)
+pub count-requires-clause-fits : goal.count-requires-clause-fits
+count-requires-clause-fits c =
+    inl (omega (arith, ap (λ s. length (left s)) c.filter.ensures.source, ap length c.new.ensures, families-few c.args.fs.now, c.requires))
 
 pub returns : goal.returns
-unfolding unmet_from
 returns c =
-    let none = ap (λ (rs : List Requirement). length (unmet_from 0 64 c.args.bits.now rs)) c.in-None.ensures.steps.0 in
-    omega (arith, c.loop-asked.invariant, none)
+    let bits = c.args.bits.now in
+    let all = requirements_in c.args.fs.now in
+    count_from_yields_List c.filter.result c.count.result c.count.ensures.ran
+    (YieldsList-from_filter _ (λ r. not (met_by_code 64 bits r)) (YieldsList-at c.filter.ensures.source (YieldsList-from_first (λ x. x) left all c.new.ensures)) c.filter.ensures.closure (λ x b q k. search (rules, tests)))
+    ∙ filtered 0 bits all
