@@ -1,8 +1,8 @@
 -- The lines from one on: what the next line does decides what all of them say, and what the code does with it is that.
 use Rattle.rules.specs.declared.Refusal.{Refusal}
-use Rattle.std.specs.Prelude.{Result, Ok}
+use Rattle.std.specs.Prelude.{Result, Option, Ok, Some, None}
 use mathlib.Core.Path.{◌≡◌, refl, sym, ap, ap₂, ◌∙◌, subst}
-use mathlib.Core.Bool.{Bool, true, false, cond, false≢true}
+use mathlib.Core.Bool.{Bool, true, false}
 use mathlib.Core.List.{List, [], ◌∷◌, ◌++◌}
 use Prim.Native.Nat.{ℕ, ◌+◌, ◌-◌, ◌≤◌, ◌<◌}
 use native.Mathlib.Omega.{arith}
@@ -22,10 +22,10 @@ use Rattle.read_names.specs.declared.Names.{Names}
 use Rattle.read_names.specs.declared.Piece.{Piece}
 use Rattle.read_names.proofs.Found.{names_more}
 use Rattle.read_kiss_lines.specs.declared.row.KissRow.{KissRow}
-use Rattle.read_kiss_rows.specs.Drafts.{draft_in, more_in, states_of, join_of, more_of}
+use Rattle.read_kiss_rows.specs.Drafts.{draft_in, more_in, states_of, join_of, more_by, more_of}
 use Rattle.read_kiss_rows.specs.declared.Draft.{Draft}
-use Rattle.read_kiss_rows.specs.declared.More.{More}
-use Rattle.read_kiss_rows.proofs.Joined.{join_by, more_by_lem}
+use Rattle.read_kiss_rows.specs.declared.states.RowStates.{RowStates}
+use Rattle.read_kiss_rows.proofs.Joined.{join_by}
 use Rattle.read_kiss_rows.proofs.NamesMeant.{no-names-room, more_room, names-count}
 use Rattle.read_kiss_rows.proofs.Meant.{Room, more-means}
 use Rattle.read_kiss.specs.declared.says.Said.{Said}
@@ -121,25 +121,31 @@ module _ (s : List ℕ) (at r k : ℕ) (d : Draft) (room : Room d) where
 
 -- ---- the headers that a row leaves
 
-abbrev Keeps : KissHeads → More → Type 0
-Keeps h m = m.full ≡ false → m.draft.heads ≡ h
+abbrev pub Keeps : KissHeads → Option Draft → Type 0
+Keeps h (Some d) = d.heads ≡ h
+Keeps h None = Unit {0}
 
 join-keeps : (h : KissHeads) (ns : Names) (rows : ℕ) (table : List Row) (r : Row) → Keeps h (join_of h ns rows table r)
 join-keeps h ns rows table r = go (leb most_rows (place_of r (take rows table))) (ltb (place_of r (take rows table)) rows) refl refl
   where
     go : (a b : Bool) → leb most_rows (place_of r (take rows table)) ≡ a → ltb (place_of r (take rows table)) rows ≡ b → Keeps h (join_of h ns rows table r)
-    go true b e f = subst (Keeps h) (sym (join_by h ns rows table r refl e f)) (λ z. absurd (false≢true (sym z)))
-    go false true e f = subst (Keeps h) (sym (join_by h ns rows table r refl e f)) (λ z. refl)
-    go false false e f = subst (Keeps h) (sym (join_by h ns rows table r refl e f)) (λ z. refl)
+    go true b e f = subst (Keeps h) (sym (join_by h ns rows table r refl e f)) tt
+    go false true e f = subst (Keeps h) (sym (join_by h ns rows table r refl e f)) refl
+    go false false e f = subst (Keeps h) (sym (join_by h ns rows table r refl e f)) refl
 
 pub row_keeps : (s : List ℕ) (k : ℕ) (row : KissRow) (h : KissHeads) (d : Draft) → Keeps h (more_of s k row h d)
-row_keeps s k row h d = go (states_of s d.names row.states).full refl
+unfolding more_of more_by
+row_keeps s k row h d = go (states_of s d.names row.states)
   where
-    go : (b : Bool) → (states_of s d.names row.states).full ≡ b → Keeps h (more_of s k row h d)
-    go true e = subst (Keeps h) (sym (more_by_lem s k row h d refl e)) (λ z. absurd (false≢true (sym z)))
-    go false e = subst (Keeps h) (sym (more_by_lem s k row h d refl e)) (join-keeps h _ d.rows d.table _)
+    go : (x : Option RowStates) → Keeps h (more_by x k row h d)
+    go (Some q) = join-keeps h q.names d.rows d.table _
+    go None = tt
 
 -- one row more, or 2
-pub more-full : (s : List ℕ) (m : More) {b : Bool} → m.full ≡ b → more_in s m ≡ cond b (stops Limit) (goes (draft_in s m.draft))
+pub more-some : (s : List ℕ) (u : Draft) → more_in s (Some u) ≡ goes (draft_in s u)
 unfolding more_in
-more-full s m e = rw e
+more-some s u = refl
+
+pub more-none : (s : List ℕ) → more_in s None ≡ stops Limit
+unfolding more_in
+more-none s = refl

@@ -14,7 +14,7 @@ ghost use Rattle.read_kiss.specs.Walks.{walked, Walks, made_by, NamedBy};
 
 use read_answers::refuse;
 use read_kiss_lines::row::{KissRow, StatePieces};
-use read_kiss_rows::{Draft, More};
+use read_kiss_rows::Draft;
 use read_names::{Names, Piece};
 use rules::{KissHeads, Pattern, Reading, Refusal, Row, Told, Verdict};
 use says::Said;
@@ -74,8 +74,8 @@ fn with_reset(at: usize, p: Piece, d: Draft) -> Draft
     next
 }
 
-// The row that the line from `at` on says, as line k, counted and joined.
-fn row_added(s: &[u8], at: usize, k: usize, row: KissRow, d: Draft) -> More
+// The row that the line from `at` on says, as line k, counted and joined; none where there is no room for it.
+fn row_added(s: &[u8], at: usize, k: usize, row: KissRow, d: Draft) -> Option<Draft>
     requires { Places at row × (d.heads.lines < 18446744073709551615) }
     ensures { result ≡ more_of s.now k (moved_row at row) (with_line d.heads) d }
 {
@@ -120,12 +120,11 @@ fn read_lines(s: &[u8]) -> Walk
             Said::Heads(h) => d.heads = h,
             Said::Reset(p) => d = with_reset(at, p, d),
             Said::Row(row) => {
-                let more = row_added(s, at, k, row, d);
-                if more.full {
+                let Some(more) = row_added(s, at, k, row, d) else {
                     let verdict = Verdict::Refused(Refusal::Limit, k);
                     return Walk { verdict, draft: d };
-                }
-                d = more.draft;
+                };
+                d = more;
             }
         }
         at = next;

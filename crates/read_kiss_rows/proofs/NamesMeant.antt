@@ -1,6 +1,7 @@
 -- The names that stand in the text, with those of a row, are those that the rules number.
+use Rattle.std.specs.Prelude.{Option, Some, None}
 use mathlib.Core.Path.{◌≡◌, refl, sym, ap, ◌∙◌, subst}
-use mathlib.Core.Bool.{Bool, true, false, cond, false≢true}
+use mathlib.Core.Bool.{Bool, true, false, cond}
 use mathlib.Core.List.{List, [], ◌∷◌, ◌++◌}
 use Prim.Native.Nat.{ℕ, ◌≤◌, ◌<◌}
 use native.Mathlib.Omega.{arith}
@@ -17,10 +18,10 @@ use Rattle.read_names.specs.declared.Names.{Names}
 use Rattle.read_names.specs.declared.Piece.{Piece}
 use Rattle.read_names.proofs.Found.{nowhere, names-length, names_more}
 use Rattle.read_kiss_lines.specs.declared.row.StatePieces.{StatePieces}
-use Rattle.read_kiss_rows.specs.Drafts.{called_of, states_by, states_of}
+use Rattle.read_kiss_rows.specs.Drafts.{called_of, both, states_by, states_of}
 use Rattle.read_kiss_rows.specs.declared.states.Called.{Called}
 use Rattle.read_kiss_rows.specs.declared.states.RowStates.{RowStates}
-use Rattle.read_kiss_rows.proofs.Called.{calls, called-star, called-by, states-from, states-by}
+use Rattle.read_kiss_rows.proofs.Called.{calls, called-star, called-by}
 
 -- ---- names as an array has them
 
@@ -53,60 +54,44 @@ module _ (l : List (List ℕ)) (f : List ℕ) where
 -- ---- one state
 
 module _ (s : List ℕ) (ns : Names) (p : Piece) (star : ℕ) (r : NamesRoom ns) where
-  -- full: a 65th name; or the names with it, and its set
-  pub record CalledMeans (q : Called) : Type 0 where
-    pub full : q.full ≡ true → most_states < length (named (names_in s ns) (piece_of s p))
-    pub names : q.full ≡ false → names_in s q.names ≡ named (names_in s ns) (piece_of s p)
-    pub room : q.full ≡ false → NamesRoom q.names
-    pub set : q.full ≡ false → q.set ≡ cond (is_star (piece_of s p)) star (only (number_of (names_in s ns) (piece_of s p)))
+  -- the names with it, and its set
+  pub record CalledIs (q : Called) : Type 0 where
+    pub names : names_in s q.names ≡ named (names_in s ns) (piece_of s p)
+    pub room : NamesRoom q.names
+    pub set : q.set ≡ cond (is_star (piece_of s p)) star (only (number_of (names_in s ns) (piece_of s p)))
 
-  by-star : is_star (piece_of s p) ≡ true → CalledMeans (calls ns star false)
-  by-star e = record {
-    full = λ z. absurd (false≢true z);
-    names = λ z. sym (named-star (names_in s ns) (piece_of s p) e);
-    room = λ z. r;
-    set = λ z. rw e;
-  }
+  -- that, or a 65th name
+  abbrev pub CalledMeans : Option Called → Type 0
+  CalledMeans (Some q) = CalledIs q
+  CalledMeans None = most_states < length (named (names_in s ns) (piece_of s p))
+
+  by-star : is_star (piece_of s p) ≡ true → CalledMeans (calls ns star)
+  by-star e = record { names = sym (named-star (names_in s ns) (piece_of s p) e); room = r; set = rw e }
 
   module _ (other : is_star (piece_of s p) ≡ false) where
-    by-full : most_states ≤ number_of (names_in s ns) (piece_of s p) → CalledMeans (calls ns 0 true)
+    by-full : most_states ≤ number_of (names_in s ns) (piece_of s p) → CalledMeans None
     by-full h =
         let l : List (List ℕ) = names_in s ns in
         let f : List ℕ = piece_of s p in
         let c : length l ≤ number_of l f = omega (arith, names-count s ns r, r.few) in
         let e : named l f ≡ l ++ (f ∷ []) = named_by l f other (le-ltb _ _ c) in
-        record {
-          full = λ z. omega (arith, ap length e, length-append l (f ∷ []), number-most l f);
-          names = λ z. absurd (false≢true (sym z));
-          room = λ z. absurd (false≢true (sym z));
-          set = λ z. absurd (false≢true (sym z));
-        }
+        omega (arith, ap length e, length-append l (f ∷ []), number-most l f)
 
-    by-known : number_of (names_in s ns) (piece_of s p) < ns.count → CalledMeans (calls ns (only (number_of (names_in s ns) (piece_of s p))) false)
+    by-known : number_of (names_in s ns) (piece_of s p) < ns.count → CalledMeans (calls ns (only (number_of (names_in s ns) (piece_of s p))))
     by-known h =
         let l : List (List ℕ) = names_in s ns in
         let f : List ℕ = piece_of s p in
         let c : number_of l f < length l = omega (arith, names-count s ns r) in
-        record {
-          full = λ z. absurd (false≢true z);
-          names = λ z. sym (named_by l f other (lt-ltb _ _ c));
-          room = λ z. r;
-          set = λ z. rw other;
-        }
+        record { names = sym (named_by l f other (lt-ltb _ _ c)); room = r; set = rw other }
 
     by-new : number_of (names_in s ns) (piece_of s p) < most_states → ns.count ≤ number_of (names_in s ns) (piece_of s p)
-        → CalledMeans (calls (with_name ns p) (only (number_of (names_in s ns) (piece_of s p))) false)
+        → CalledMeans (calls (with_name ns p) (only (number_of (names_in s ns) (piece_of s p))))
     by-new h g =
         let l : List (List ℕ) = names_in s ns in
         let f : List ℕ = piece_of s p in
         let c : length l ≤ number_of l f = omega (arith, names-count s ns r) in
         let k : ns.count < most_states = omega arith in
-        record {
-          full = λ z. absurd (false≢true z);
-          names = λ z. names_more s ns p r.places k ∙ sym (named_by l f other (le-ltb _ _ c));
-          room = λ z. more_room ns p r k;
-          set = λ z. rw other;
-        }
+        record { names = names_more s ns p r.places k ∙ sym (named_by l f other (le-ltb _ _ c)); room = more_room ns p r k; set = rw other }
 
   pub called-means : CalledMeans (called_of s ns p star)
   called-means = by (is_star (piece_of s p)) refl
@@ -132,48 +117,31 @@ unfolding next_of
 next-is l f = refl
 
 module _ (s : List ℕ) (ns : Names) (ps : StatePieces) (r : NamesRoom ns) where
-  pub record StatesMean (q : RowStates) : Type 0 where
-    pub full : q.full ≡ true → most_states < length (named (named (names_in s ns) (piece_of s ps.present)) (piece_of s ps.next))
-    pub names : q.full ≡ false → names_in s q.names ≡ named (named (names_in s ns) (piece_of s ps.present)) (piece_of s ps.next)
-    pub room : q.full ≡ false → NamesRoom q.names
-    pub group : q.full ≡ false → q.group ≡ present_of (names_in s ns) (piece_of s ps.present)
-    pub next : q.full ≡ false → q.next ≡ next_of (named (names_in s ns) (piece_of s ps.present)) (piece_of s ps.next)
+  pub record StatesAre (q : RowStates) : Type 0 where
+    pub names : names_in s q.names ≡ named (named (names_in s ns) (piece_of s ps.present)) (piece_of s ps.next)
+    pub room : NamesRoom q.names
+    pub group : q.group ≡ present_of (names_in s ns) (piece_of s ps.present)
+    pub next : q.next ≡ next_of (named (names_in s ns) (piece_of s ps.present)) (piece_of s ps.next)
+
+  abbrev pub StatesMean : Option RowStates → Type 0
+  StatesMean (Some q) = StatesAre q
+  StatesMean None = most_states < length (named (named (names_in s ns) (piece_of s ps.present)) (piece_of s ps.next))
 
   pub states-mean : StatesMean (states_of s ns ps)
-  states-mean = by (called_of s ns ps.present (everyone most_states)) refl (called-means s ns ps.present (everyone most_states) r)
+  unfolding states_of states_by
+  states-mean = by (called_of s ns ps.present (everyone most_states)) (called-means s ns ps.present (everyone most_states) r)
     where
-      behind : (q : Called) → q.full ≡ false → CalledMeans s ns ps.present (everyone most_states) r q → StatesMean (states_by s q ps.next)
-      behind q e m =
-          let t : Called = called_of s q.names ps.next 0 in
-          let k : CalledMeans s q.names ps.next 0 (m.room e) t = called-means s q.names ps.next 0 (m.room e) in
-          let i : names_in s q.names ≡ named (names_in s ns) (piece_of s ps.present) = m.names e in
-          subst StatesMean
-          (sym (states-by s q ps.next e refl))
-          (record {
-            full = λ z. subst (λ (l : List (List ℕ)). most_states < length (named l (piece_of s ps.next))) i (k.full z);
-            names = λ z. k.names z ∙ ap (λ (l : List (List ℕ)). named l (piece_of s ps.next)) i;
-            room = λ z. k.room z;
-            group = λ z. m.set e ∙ present-is (names_in s ns) (piece_of s ps.present);
-            next = λ z. k.set z ∙ next-is (names_in s q.names) (piece_of s ps.next) ∙ ap (λ (l : List (List ℕ)). next_of l (piece_of s ps.next)) i;
-          })
+      behind : (q : Called) (m : CalledIs s ns ps.present (everyone most_states) r q) (y : Option Called) → CalledMeans s q.names ps.next 0 m.room y → StatesMean (both q y)
+      behind q m (Some t) k =
+          let i : names_in s q.names ≡ named (names_in s ns) (piece_of s ps.present) = m.names in
+          record {
+            names = k.names ∙ ap (λ (l : List (List ℕ)). named l (piece_of s ps.next)) i;
+            room = k.room;
+            group = m.set ∙ present-is (names_in s ns) (piece_of s ps.present);
+            next = k.set ∙ next-is (names_in s q.names) (piece_of s ps.next) ∙ ap (λ (l : List (List ℕ)). next_of l (piece_of s ps.next)) i;
+          }
+      behind q m None k = subst (λ (l : List (List ℕ)). most_states < length (named l (piece_of s ps.next))) m.names k
 
-      none : (q : Called) → q.full ≡ true → CalledMeans s ns ps.present (everyone most_states) r q → StatesMean (states_by s q ps.next)
-      none q e m =
-          let l : List (List ℕ) = named (names_in s ns) (piece_of s ps.present) in
-          let h : most_states < length l = m.full e in
-          subst StatesMean
-          (sym (states-by s q ps.next e refl))
-          (record {
-            full = λ z. omega (arith, h, named-grows l (piece_of s ps.next));
-            names = λ z. absurd (false≢true (sym z));
-            room = λ z. absurd (false≢true (sym z));
-            group = λ z. absurd (false≢true (sym z));
-            next = λ z. absurd (false≢true (sym z));
-          })
-
-      on : (q : Called) (b : Bool) → q.full ≡ b → CalledMeans s ns ps.present (everyone most_states) r q → StatesMean (states_by s q ps.next)
-      on q true e m = none q e m
-      on q false e m = behind q e m
-
-      by : (q : Called) → q ≡ called_of s ns ps.present (everyone most_states) → CalledMeans s ns ps.present (everyone most_states) r q → StatesMean (states_of s ns ps)
-      by q e m = subst StatesMean (sym (states-from s ns ps e)) (on q q.full refl m)
+      by : (x : Option Called) → CalledMeans s ns ps.present (everyone most_states) r x → StatesMean (states_by s x ps.next)
+      by (Some q) m = behind q m (called_of s q.names ps.next 0) (called-means s q.names ps.next 0 m.room)
+      by None m = omega (arith, m, named-grows (named (names_in s ns) (piece_of s ps.present)) (piece_of s ps.next))

@@ -1,5 +1,5 @@
 -- What the functions of this crate answer: the draft of `rules` with its names as places in the text, and one row more.
-use Rattle.std.specs.Prelude.{Bool, true, false, cond, List, ℕ, ◌+◌, take, get_or, set, leb, ltb}
+use Rattle.std.specs.Prelude.{cond, List, ℕ, ◌+◌, take, get_or, set, leb, ltb, Option, Some, None}
 use Rattle.sets.specs.Sets.{only, everyone}
 use Rattle.rules.specs.Limits.{most_states, most_rows}
 use Rattle.rules.specs.Listing.{no_row}
@@ -14,7 +14,6 @@ use Rattle.read_names.specs.declared.Piece.{Piece}
 use Rattle.read_kiss_lines.specs.declared.row.StatePieces.{StatePieces}
 use Rattle.read_kiss_lines.specs.declared.row.KissRow.{KissRow}
 use Rattle.read_kiss_rows.specs.declared.Draft.{Draft}
-use Rattle.read_kiss_rows.specs.declared.More.{More}
 use Rattle.read_kiss_rows.specs.declared.states.Called.{Called}
 use Rattle.read_kiss_rows.specs.declared.states.RowStates.{RowStates}
 
@@ -26,55 +25,56 @@ unfolding names_in
 draft_in s d = record { heads = d.heads; names = names_in s d.names; rows = d.rows; table = d.table }
 
 -- one row more, or 2
-unfoldable pub more_in : List ℕ → More → KissStep
+unfoldable pub more_in : List ℕ → Option Draft → KissStep
 unfolding draft_in
-more_in s m = cond m.full (stops Limit) (goes (draft_in s m.draft))
+more_in s (Some d) = goes (draft_in s d)
+more_in s None = stops Limit
 
 -- ---- states
 
-abbrev numbered : ℕ → Names → Piece → Called
+abbrev numbered : ℕ → Names → Piece → Option Called
 unfolding with_name
-numbered n ns p =
-    cond (leb most_states n) (record { names = ns; set = 0; full = true })
-    (cond (ltb n ns.count) (record { names = ns; set = only n; full = false }) (record { names = with_name ns p; set = only n; full = false }))
+numbered n ns p = cond (leb most_states n) None (cond (ltb n ns.count) (Some (record { names = ns; set = only n })) (Some (record { names = with_name ns p; set = only n })))
 
-unfoldable pub called_of : List ℕ → Names → Piece → ℕ → Called
+unfoldable pub called_of : List ℕ → Names → Piece → ℕ → Option Called
 unfolding is_star piece_of names_in number_of with_name
-called_of s ns p star = cond (is_star (piece_of s p)) (record { names = ns; set = star; full = false }) (numbered (number_of (names_in s ns) (piece_of s p)) ns p)
+called_of s ns p star = cond (is_star (piece_of s p)) (Some (record { names = ns; set = star })) (numbered (number_of (names_in s ns) (piece_of s p)) ns p)
+
+-- both states of a row, of which the present one has named its own
+abbrev pub both : Called → Option Called → Option RowStates
+both present (Some q) = Some (record { names = q.names; group = present.set; next = q.set })
+both present None = None
 
 -- the next state, behind the present one
-unfoldable pub states_by : List ℕ → Called → Piece → RowStates
+unfoldable pub states_by : List ℕ → Option Called → Piece → Option RowStates
 unfolding called_of
-states_by s present next =
-    cond present.full (record { names = present.names; group = 0; next = 0; full = true })
-    (let q = called_of s present.names next 0 in record { names = q.names; group = present.set; next = q.set; full = q.full })
+states_by s (Some present) next = both present (called_of s present.names next 0)
+states_by s None next = None
 
-unfoldable pub states_of : List ℕ → Names → StatePieces → RowStates
+unfoldable pub states_of : List ℕ → Names → StatePieces → Option RowStates
 unfolding called_of states_by
 states_of s ns ps = states_by s (called_of s ns ps.present (everyone most_states)) ps.next
 
 -- ---- rows
 
--- a draft, full or not
-abbrev pub drafts : KissHeads → Names → ℕ → List Row → Bool → More
-drafts h ns rows table full = record { full = full; draft = record { heads = h; names = ns; rows = rows; table = table } }
+abbrev pub drafts : KissHeads → Names → ℕ → List Row → Draft
+drafts h ns rows table = record { heads = h; names = ns; rows = rows; table = table }
 
 -- by the place of the row that r joins, or behind the last
-unfoldable pub join_at : ℕ → KissHeads → Names → ℕ → List Row → Row → More
+unfoldable pub join_at : ℕ → KissHeads → Names → ℕ → List Row → Row → Option Draft
 join_at place h ns rows table r =
-    cond (leb most_rows place) (drafts h ns rows table true)
-    (cond (ltb place rows) (drafts h ns rows (set table place (joined (get_or table place no_row) r)) false) (drafts h ns (place + 1) (set table place r) false))
+    cond (leb most_rows place) None
+    (cond (ltb place rows) (Some (drafts h ns rows (set table place (joined (get_or table place no_row) r)))) (Some (drafts h ns (place + 1) (set table place r))))
 
-unfoldable pub join_of : KissHeads → Names → ℕ → List Row → Row → More
+unfoldable pub join_of : KissHeads → Names → ℕ → List Row → Row → Option Draft
 unfolding join_at place_of
 join_of h ns rows table r = join_at (place_of r (take rows table)) h ns rows table r
 
-unfoldable pub more_by : RowStates → ℕ → KissRow → KissHeads → Draft → More
+unfoldable pub more_by : Option RowStates → ℕ → KissRow → KissHeads → Draft → Option Draft
 unfolding join_of
-more_by q k row h d =
-    cond q.full (record { full = true; draft = d })
-    (join_of h q.names d.rows d.table (record { input = row.input; group = q.group; next = q.next; outputs = row.outputs; line = k }))
+more_by (Some q) k row h d = join_of h q.names d.rows d.table (record { input = row.input; group = q.group; next = q.next; outputs = row.outputs; line = k })
+more_by None k row h d = None
 
-unfoldable pub more_of : List ℕ → ℕ → KissRow → KissHeads → Draft → More
+unfoldable pub more_of : List ℕ → ℕ → KissRow → KissHeads → Draft → Option Draft
 unfolding states_of more_by
 more_of s k row h d = more_by (states_of s d.names row.states) k row h d

@@ -1,9 +1,9 @@
 // A row among those that are there: it joins the first with its input, next state and outputs, or stands behind the last.
 ghost use Rattle.std.specs.Prelude.{◌≡◌, take};
 ghost use Rattle.rules.specs.Kiss.{same_pattern, same_row, place_of};
-ghost use Rattle.read_kiss_rows.specs.Drafts.{drafts, join_of};
+ghost use Rattle.read_kiss_rows.specs.Drafts.{join_of};
 
-use super::{Draft, More};
+use super::Draft;
 use read_names::Names;
 use rules::{KissHeads, Pattern, Row};
 
@@ -35,43 +35,37 @@ fn place_of(rows: usize, table: [Row; rules::MOST_ROWS], r: Row) -> usize
     n
 }
 
-// A draft, and whether it is full.
-fn drafted(
+// The rows with r among them; none where there are as many as there may be.
+pub fn join(
     h: KissHeads,
     names: Names,
     rows: usize,
     table: [Row; rules::MOST_ROWS],
-    full: bool,
-) -> More
-    ensures { result ≡ drafts h names rows table full }
-{
-    let draft = Draft {
-        heads: h,
-        names: names,
-        rows: rows,
-        table: table,
-    };
-    More {
-        full: full,
-        draft: draft,
-    }
-}
-
-// The rows with r among them.
-pub fn join(h: KissHeads, names: Names, rows: usize, table: [Row; rules::MOST_ROWS], r: Row) -> More
+    r: Row,
+) -> Option<Draft>
     ensures { result ≡ join_of h names rows table r }
 {
     let place = place_of(rows, table, r);
     if rules::MOST_ROWS <= place {
-        return drafted(h, names, rows, table, true);
+        return None;
     }
     let mut next = table;
     if place < rows {
         let mut old = table[place];
         old.group = old.group | r.group;
         next[place] = old;
-        return drafted(h, names, rows, next, false);
+        return Some(Draft {
+            heads: h,
+            names: names,
+            rows: rows,
+            table: next,
+        });
     }
     next[place] = r;
-    drafted(h, names, place + 1, next, false)
+    Some(Draft {
+        heads: h,
+        names: names,
+        rows: place + 1,
+        table: next,
+    })
 }

@@ -20,34 +20,18 @@ pub struct Draft {
     pub table: [Row; rules::MOST_ROWS],
 }
 
-// The draft with a row more, unless it is full.
-#[derive(Clone, Copy)]
-pub struct More {
-    pub full: bool,
-    pub draft: Draft,
-}
-
-// The row of line k, whose states stand in the text s, under headers that have counted its line.
-pub fn with_row(s: &[u8], k: usize, row: KissRow, h: KissHeads, d: Draft) -> More
+// The draft with the row of line k, whose states stand in the text s, under headers that have counted its line; none where a state or the row has no room.
+#[tactic(auto, unfolding(crate::specs::Drafts::more_of, crate::specs::Drafts::more_by))]
+pub fn with_row(s: &[u8], k: usize, row: KissRow, h: KissHeads, d: Draft) -> Option<Draft>
     ensures { result ≡ more_of s.now k row h d }
 {
-    let named = states::row_states(s, d.names, row.states);
-    if named.full {
-        return More {
-            full: true,
-            draft: d,
-        };
-    }
-    let input = row.input;
-    let outputs = row.outputs;
+    let named = states::row_states(s, d.names, row.states)?;
     let next = Row {
-        input: input,
+        input: row.input,
         group: named.group,
         next: named.next,
-        outputs: outputs,
+        outputs: row.outputs,
         line: k,
     };
-    let names = named.names;
-    let table = d.table;
-    joining::join(h, names, d.rows, table, next)
+    joining::join(h, named.names, d.rows, d.table, next)
 }

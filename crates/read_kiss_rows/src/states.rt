@@ -8,12 +8,11 @@ use read_names::{Names, Piece};
 // All states that there can be.
 const EVERYONE: u64 = 18446744073709551615;
 
-// The names when a field has named a state, the state as a set, and whether there was no room for its name.
+// The names when a field has named a state, and the state as a set.
 #[derive(Clone, Copy)]
 pub struct Called {
     pub names: Names,
     pub set: u64,
-    pub full: bool,
 }
 
 // The names when a row has named its states, and both as sets.
@@ -22,63 +21,45 @@ pub struct RowStates {
     pub names: Names,
     pub group: u64,
     pub next: u64,
-    pub full: bool,
 }
 
-// The state that a piece of the text names; `*` stands for the set `star`.
-fn state_called(s: &[u8], names: Names, p: Piece, star: u64) -> Called
+// The state that a piece of the text names; `*` stands for the set `star`; none where there is no room for its name.
+fn state_called(s: &[u8], names: Names, p: Piece, star: u64) -> Option<Called>
     ensures { result ≡ called_of s.now names p star }
 {
     let f = read_names::bytes_of(s, p);
     if read_kiss_lines::states::is_star(f) {
-        return Called {
+        return Some(Called {
             names: names,
             set: star,
-            full: false,
-        };
+        });
     }
     let n = read_names::number_of(s, names, f);
     if rules::MOST_STATES <= n {
-        return Called {
-            names: names,
-            set: 0,
-            full: true,
-        };
+        return None;
     }
     if n < names.count {
-        return Called {
+        return Some(Called {
             names: names,
             set: 1 << n,
-            full: false,
-        };
+        });
     }
-    Called {
+    Some(Called {
         names: read_names::with_name(names, p),
         set: 1 << n,
-        full: false,
-    }
+    })
 }
 
 // Both states of a row.
-pub fn row_states(s: &[u8], names: Names, pieces: StatePieces) -> RowStates
+#[tactic(auto, unfolding(crate::specs::Drafts::states_of, crate::specs::Drafts::states_by))]
+pub fn row_states(s: &[u8], names: Names, pieces: StatePieces) -> Option<RowStates>
     ensures { result ≡ states_of s.now names pieces }
 {
-    let present = state_called(s, names, pieces.present, EVERYONE);
-    let so_far = present.names;
-    if present.full {
-        return RowStates {
-            names: so_far,
-            group: 0,
-            next: 0,
-            full: true,
-        };
-    }
-    let next = state_called(s, so_far, pieces.next, 0);
-    let all = next.names;
-    RowStates {
-        names: all,
+    let present = state_called(s, names, pieces.present, EVERYONE)?;
+    let next = state_called(s, present.names, pieces.next, 0)?;
+    Some(RowStates {
+        names: next.names,
         group: present.set,
         next: next.set,
-        full: next.full,
-    }
+    })
 }

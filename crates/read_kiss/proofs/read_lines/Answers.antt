@@ -1,5 +1,5 @@
 -- `read_kiss::read_lines` meets its contract: the lines from number k on, behind those that made d, say what all the lines say.
-use Rattle.std.specs.Prelude.{Result, Ok}
+use Rattle.std.specs.Prelude.{Result, Option, Ok, Some}
 use Rattle.rules.specs.declared.Refusal.{Refusal}
 use mathlib.Core.List.{List}
 use Prim.Native.Nat.{ℕ}
@@ -8,7 +8,6 @@ use Rattle.rules.specs.declared.KissHeads.{KissHeads}
 use Rattle.read_names.specs.declared.Piece.{Piece}
 use Rattle.read_kiss_lines.specs.declared.row.KissRow.{KissRow}
 use Rattle.read_kiss_rows.specs.Drafts.{more_of}
-use Rattle.read_kiss_rows.specs.declared.More.{More}
 use Rattle.read_kiss.proofs.Fields.{Inside}
 use mathlib.Core.Path.{subst}
 use Rattle.rules.specs.Text.{lines_of}
@@ -16,7 +15,7 @@ use Rattle.rules.specs.Kiss.{no_draft, with_line, Draft as Drafted, KissStep}
 use Rattle.read_pieces.proofs.Laws.{part, cut_of}
 use Rattle.read_kiss_rows.specs.Drafts.{draft_in, more_in}
 use Rattle.read_kiss_rows.specs.declared.Draft.{Draft}
-use Rattle.read_kiss_rows.proofs.Meant.{Room, more-means}
+use Rattle.read_kiss_rows.proofs.Meant.{Room, RoomIn, more-means}
 use Rattle.read_kiss.specs.declared.says.Said.{Said}
 use Rattle.read_kiss.specs.Says.{step_of, moved_row, reset_to}
 use Rattle.read_kiss.specs.Walks.{walked, Walks}
@@ -24,13 +23,12 @@ use Rattle.rules.specs.declared.Verdict.{Verdict}
 use Rattle.read_kiss_rows.proofs.NamesMeant.{names-count}
 use Rattle.read_kiss.proofs.Endings.{end_is}
 use Rattle.read_kiss.proofs.Saying.{says-within, says-counts}
-use Rattle.read_kiss.proofs.Steps.{behind, read-line, read-last, none_yet, none-room, heads_done, reset-done, reset-room, row_done, row_keeps, more-full}
+use Rattle.read_kiss.proofs.Steps.{behind, read-line, read-last, none_yet, none-room, heads_done, reset-done, reset-room, row_done, row_keeps, more-some, more-none, Keeps}
 use Prim.Native.Nat.{◌<◌, ◌-◌, ◌+◌}
 use mathlib.Core.Path.{◌≡◌, sym, ap, ◌∙◌}
-use mathlib.Core.Bool.{false}
 use native.Mathlib.Omega.{arith}
 use lib.ListN.{length, drop}
-use Rattle.read_kiss.proofs.read_lines.Goals.{After-line_said-said, in-Heads, in-Reset, in-Row+else-more}
+use Rattle.read_kiss.proofs.read_lines.Goals.{After-line_said-said, in-Heads, in-Reset, in-Row+in-Some}
 use Rattle.read_kiss.proofs.read_lines.Goals as goal
 
 -- a line that says x: what stands behind it decides
@@ -85,18 +83,17 @@ reset-next c p e =
       omega (arith, l.invariant.4),
     )
 
-row_next : (c : After-line_said-said) (row : KissRow) (m : More) → c.line_said-said.result ≡ Ok (Said.Row row)
-    → m ≡ more_of c.args.s.now c.loop-end.k (moved_row c.loop-end.at row) (with_line c.loop-end.d.heads) c.loop-end.d → m.full ≡ false → Next c m.draft
-row_next c row m e q f =
+row_next : (c : After-line_said-said) (row : KissRow) (u : Draft) → c.line_said-said.result ≡ Ok (Said.Row row)
+    → ◌≡◌ {A = Option Draft} (Some u) (more_of c.args.s.now c.loop-end.k (moved_row c.loop-end.at row) (with_line c.loop-end.d.heads) c.loop-end.d) → Next c u
+row_next c row u e q =
     let l = c.loop-end in
     let s = c.args.s.now in
     let r = l.invariant.3 in
     let w = says-within _ _ _ _ (sym e ∙ c.line_said-said.ensures) in
-    let done = row_done s l.at l.end l.k l.d r row w.0 w.1 ∙ ap (more_in s) (sym q) ∙ more-full s m f in
-    let h = row_keeps s l.k (moved_row l.at row) (with_line l.d.heads) l.d in
-    let n : m.draft.heads ≡ with_line l.d.heads = subst (λ (t : More). t.full ≡ false → t.draft.heads ≡ with_line l.d.heads) (sym q) h f in (
+    let done = row_done s l.at l.end l.k l.d r row w.0 w.1 ∙ ap (more_in s) (sym q) ∙ more-some s u in
+    let n : u.heads ≡ with_line l.d.heads = subst (Keeps (with_line l.d.heads)) (sym q) (row_keeps s l.k (moved_row l.at row) (with_line l.d.heads) l.d) in (
       ap (λ (y : KissStep). behind y l.k (draft_in s l.d) (lines_of (drop (l.end + 1) s))) (sym done) ∙ all_lines c e,
-      subst (λ (t : More). t.full ≡ false → Room t.draft) (sym q) (more-means s l.k (moved_row l.at row) l.d r).room f,
+      subst RoomIn (sym q) (more-means s l.k (moved_row l.at row) l.d r).room,
       omega (arith, ap (λ (t : KissHeads). t.lines) n, l.invariant.4),
     )
 
@@ -129,21 +126,22 @@ returns-in-End c =
 pub with_reset-d-requires : goal.with_reset-d-requires
 with_reset-d-requires c = places-fit (goal.at.with_reset-d-requires c).After-line_said-said _ (says-within _ _ _ _ (sym (c.in-Ok.is ∙ ap Ok c.in-Reset.is) ∙ c.line_said-said.ensures))
 
-pub row_added-more-requires : goal.row_added-more-requires
-row_added-more-requires c =
+pub row_added-requires : goal.row_added-requires
+row_added-requires c =
     let w = says-within _ _ _ _ (sym (c.in-Ok.is ∙ ap Ok c.in-Row.is) ∙ c.line_said-said.ensures) in
-    let p = places-fit (goal.at.row_added-more-requires c).After-line_said-said _ w.0 in
-    let n = places-fit (goal.at.row_added-more-requires c).After-line_said-said _ w.1 in
+    let p = places-fit (goal.at.row_added-requires c).After-line_said-said _ w.0 in
+    let n = places-fit (goal.at.row_added-requires c).After-line_said-said _ w.1 in
     (record { present_start = p.0; present_end = p.1; next_start = n.0; next_end = n.1 }, omega (arith, c.loop-end.invariant.4, c.loop-end.invariant.1))
 
-pub returns-then-more : goal.returns-then-more
-returns-then-more c =
+pub returns-in_default-row_added : goal.returns-in_default-row_added
+returns-in_default-row_added c =
     let l = c.loop-end in
     let s = c.args.s.now in
-    let w = says-within _ _ _ _ (sym (c.in-Ok.is ∙ ap Ok c.in-Row.is) ∙ c.line_said-said.ensures) in
-    let full = row_done s l.at l.end l.k l.d l.invariant.3 _ w.0 w.1 ∙ ap (more_in s) (sym c.row_added-more.ensures) ∙ more-full s _ c.if-more.true in
+    let e = c.in-Ok.is ∙ ap Ok c.in-Row.is in
+    let w = says-within _ _ _ _ (sym e ∙ c.line_said-said.ensures) in
+    let full = row_done s l.at l.end l.k l.d l.invariant.3 _ w.0 w.1 ∙ ap (more_in s) (sym c.row_added.ensures ∙ c.in_default-row_added.is) ∙ more-none s in
     walks s l.d l.invariant.3
-    (ap (λ (y : KissStep). behind y l.k (draft_in s l.d) (lines_of (drop (l.end + 1) s))) (sym full) ∙ all_lines (goal.at.returns-then-more c).After-line_said-said (c.in-Ok.is ∙ ap Ok c.in-Row.is))
+    (ap (λ (y : KissStep). behind y l.k (draft_in s l.d) (lines_of (drop (l.end + 1) s))) (sym full) ∙ all_lines (goal.at.returns-in_default-row_added c).After-line_said-said e)
 
 pub loop-end-preserved : goal.loop-end-preserved
 loop-end-preserved c =
@@ -152,7 +150,7 @@ loop-end-preserved c =
     let next : Next d c.match-step.d = elim c.match-step.branch [
       | in-Heads w ↦ subst (Next d) (sym w.d-is) (heads-next d _ (c.in-Ok.is ∙ ap Ok w.in-Heads.is))
       | in-Reset w ↦ subst (Next d) (sym w.d-is) (subst (Next d) (sym w.with_reset-d.ensures) (reset-next d _ (c.in-Ok.is ∙ ap Ok w.in-Reset.is)))
-      | in-Row+else-more w ↦ subst (Next d) (sym w.d-is) (row_next d _ w.row_added-more.result (c.in-Ok.is ∙ ap Ok w.in-Row.is) w.row_added-more.ensures w.if-more.false)
+      | in-Row+in-Some w ↦ subst (Next d) (sym w.d-is) (row_next d _ _ (c.in-Ok.is ∙ ap Ok w.in-Row.is) (sym w.in-Some.is ∙ w.row_added.ensures))
     ]
     in
     (cut_of _ _ (l.end + 1) (omega arith) c.cut-end-in-loop-end.ensures, omega arith, next.0, next.1, next.2)

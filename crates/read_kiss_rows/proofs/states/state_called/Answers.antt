@@ -7,7 +7,6 @@ use Rattle.sets.proofs.Members.{shl_one}
 use Rattle.read_kiss_rows.proofs.Called.{calls, called-star, called-by}
 use Prim.Native.Nat.{ℕ}
 use mathlib.Core.Path.{refl, sym, ap, ◌∙◌}
-use mathlib.Core.Bool.{false}
 use borrow.Author.Tests.{lt-ltb, le-ltb, le-leb, lt-leb}
 use Rattle.read_kiss_rows.proofs.states.state_called.Goals as goal
 
@@ -26,7 +25,7 @@ returns-then-n-names c =
     let n = c.number_of-n.result in
     let b = c.bytes_of-f.ensures in
     let star = ap is_star (sym b) ∙ sym c.is_star.ensures ∙ c.if-is_star.false in
-    ap (λ (m : ℕ). calls a.names m false) (shl_one 64 n c.if-n-ge-MOST_STATES.false)
+    ap (λ (m : ℕ). calls a.names m) (shl_one 64 n c.if-n-ge-MOST_STATES.false)
     ∙ sym (called-by _ _ _ _ star (c.number_of-n.ensures ∙ ap (number_of _) b) (lt-leb _ _ c.if-n-ge-MOST_STATES.false) (lt-ltb _ _ c.if-n-names.true))
 
 pub returns : goal.returns
@@ -34,5 +33,5 @@ returns c =
     let n = c.number_of-n.result in
     let b = c.bytes_of-f.ensures in
     let star = ap is_star (sym b) ∙ sym c.is_star.ensures ∙ c.if-is_star.false in
-    ap₂ (λ (q : Names) (m : ℕ). calls q m false) c.with_name.ensures (shl_one 64 n c.if-n-ge-MOST_STATES.false)
+    ap₂ (λ (q : Names) (m : ℕ). calls q m) c.with_name.ensures (shl_one 64 n c.if-n-ge-MOST_STATES.false)
     ∙ sym (called-by _ _ _ _ star (c.number_of-n.ensures ∙ ap (number_of _) b) (lt-leb _ _ c.if-n-ge-MOST_STATES.false) (le-ltb _ _ c.if-n-names.false))
