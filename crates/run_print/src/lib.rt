@@ -17,9 +17,10 @@ fn put_code(out: &mut [u8], at: usize, width: usize, code: u64) -> usize
     ensures { Wrote out.old at (code_text (vector width code)) result out.new }
 {
     if width == 0 {
-        return write_pen::put_byte(out, at, b'-');
+        write_pen::put_byte(out, at, b'-')
+    } else {
+        write_pen::put_digits(out, at, code, width)
     }
-    write_pen::put_digits(out, at, code, width)
 }
 
 // `ST state code outputs`, of a code of so many bits and so many outputs.
@@ -72,10 +73,7 @@ pub fn add_step(
 ) -> Part
     ensures { (result, out.new) ≡ added_all (step_within state width code outputs n) (part, out.old) }
 {
-    if rules::MOST_BITS < width {
-        return part;
-    }
-    if rules::MOST_OUTPUTS < n {
+    if rules::MOST_BITS < width || rules::MOST_OUTPUTS < n {
         return part;
     }
     add_shown(out, part, state, width, code, outputs, n)

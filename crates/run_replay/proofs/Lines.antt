@@ -1,5 +1,6 @@
 -- A run line by line, as a loop has it: what each line does to what is printed, and to the place.
-use Rattle.std.specs.Prelude.{Result, Ok, Err}
+use Rattle.std.specs.Prelude.{Option, Result, Ok, Err, unwrap_or}
+use Rattle.std.specs.Result.{result_err}
 use mathlib.Core.Path.{◌≡◌, refl, sym, ap, ◌∙◌}
 use mathlib.Core.Bool.{Bool, true, false, ◌&&◌}
 use mathlib.Core.List.{List, [], ◌∷◌}
@@ -30,7 +31,7 @@ use Rattle.run_symbolic.specs.declared.Told.{Told}
 use Rattle.run_encoded.specs.Terms.{code_for, code_by}
 use Rattle.run_encoded.specs.declared.Terms.{Terms}
 use Rattle.run_print.specs.Lines.{step_within}
-use Rattle.run_replay.specs.Moves.{moved_by, start_reason, vector_reason}
+use Rattle.run_replay.specs.Moves.{moved_by}
 use Rattle.run_replay.specs.Places.{Course, ends_at, in_front, line_of, ran_end, ran_from, ran_first, ran_on}
 use Rattle.run_replay.specs.declared.Moved.{Moved}
 use Rattle.run_replay.specs.declared.Place.{Place}
@@ -80,13 +81,8 @@ read-few h done l {x} e =
     refused-not r e = let z : ◌≡◌ {A = ℕ} 0 1 = cc in omega arith
 
 -- the reason of a line that is refused
-pub reason-is : (v : Result ℕ Refusal) {r q : Refusal} → v ≡ Err r → q ≡ vector_reason v → v ≡ Err q
-unfolding vector_reason
-reason-is v e f = e ∙ ap Err (sym (f ∙ ap vector_reason e))
-
-pub start-reason-is : (v : Result StateNumber Refusal) {r q : Refusal} → v ≡ Err r → q ≡ start_reason v → v ≡ Err q
-unfolding start_reason
-start-reason-is v e f = e ∙ ap Err (sym (f ∙ ap start_reason e))
+pub reason-is : {A : Type 0} (v : Result A Refusal) {o : Option Refusal} {r q : Refusal} → v ≡ Err r → o ≡ result_err v → q ≡ unwrap_or o BadLine → v ≡ Err q
+reason-is v e f g = e ∙ ap Err (sym (g ∙ ap (λ o. unwrap_or o BadLine) (f ∙ ap result_err e)))
 
 module _ (t : Listing) (ts : Terms) (w done s code : ℕ) (rest : List (List ℕ)) where
   -- with what both machines give, by whether a next state is named

@@ -1,11 +1,8 @@
--- Both machines of a listing, a step of both as code has it, and why a line is refused.
-use Rattle.rules.specs.declared.StateNumber.{StateNumber}
-use Rattle.std.specs.Prelude.{List, ℕ, take, Result, Ok, Err}
+-- Both machines of a listing, and a step of both as code has it.
+use Rattle.std.specs.Prelude.{List, ℕ, take}
 use Rattle.rules.specs.Listing.{all_rows}
 use Rattle.rules.specs.Replay.{state_in}
 use Rattle.rules.specs.declared.Listing.{Listing}
-use Rattle.rules.specs.declared.Refusal.{Refusal}
-use Rattle.rules.specs.declared.Refusal.TheVariants.{BadLine}
 use Rattle.run_symbolic.specs.Told.{untold, told_by, outputs_told}
 use Rattle.run_encoded.specs.Terms.{terms_for, code_by}
 use Rattle.run_encoded.specs.declared.Terms.{Terms}
@@ -17,16 +14,6 @@ use Rattle.run_replay.specs.declared.Moved.{Moved}
 unfoldable pub machines_of : Listing → ℕ → List ℕ → Machines
 unfolding terms_for
 machines_of t width bits = record { listing = t; width = width; bits = bits; terms = terms_for t (take width bits) }
-
--- ---- why a line is refused
-
-unfoldable pub start_reason : Result StateNumber Refusal → Refusal
-start_reason (Err r) = r
-start_reason (Ok s) = BadLine
-
-unfoldable pub vector_reason : Result ℕ Refusal → Refusal
-vector_reason (Err r) = r
-vector_reason (Ok x) = BadLine
 
 -- ---- a step of both
 

@@ -4,11 +4,11 @@
 
 ghost use Rattle.std.specs.Prelude.{◌≡◌};
 ghost use Rattle.rules.specs.Text.{lines_of};
-ghost use Rattle.run_replay.specs.Moves.{machines_of, start_reason, vector_reason, moved_by};
+ghost use Rattle.run_replay.specs.Moves.{machines_of, moved_by};
 ghost use Rattle.run_replay.specs.Places.{ends_at, ran_from, ran_first, ran_by, course_of, ran_on};
 
 use read_pieces::cut;
-use rules::{Listing, Pattern, Refusal, StateNumber};
+use rules::{Listing, Pattern, Refusal};
 use run_encoded::Terms;
 use write_parts::Part;
 
@@ -60,25 +60,6 @@ pub fn machines_of(t: Listing, width: usize, bits: [u64; rules::MOST_BITS]) -> M
     }
 }
 
-// Why a line is refused; 1 for one that was read.
-fn start_reason(got: Result<StateNumber, Refusal>) -> Refusal
-    ensures { result ≡ start_reason got }
-{
-    match got {
-        Err(r) => r,
-        Ok(_) => Refusal::BadLine,
-    }
-}
-
-fn vector_reason(got: Result<u64, Refusal>) -> Refusal
-    ensures { result ≡ vector_reason got }
-{
-    match got {
-        Err(r) => r,
-        Ok(_) => Refusal::BadLine,
-    }
-}
-
 // A step of both machines, from the state s and from a code.
 fn step_both(t: Listing, terms: Terms, width: usize, x: u64, s: usize, code: u64) -> Moved
     ensures { result ≡ moved_by t terms width x s code }
@@ -101,8 +82,10 @@ fn add_end(out: &mut [u8], part: Part, refusal: Refusal, line: usize) -> Ran
     ensures { (result, out.new) ≡ ran_on (ends_at refusal line) (part, out.old) }
 {
     let to = write_refusal::add_refusal(out, part, refusal, line);
-    let place = Place::Over;
-    Ran { part: to, place }
+    Ran {
+        part: to,
+        place: Place::Over,
+    }
 }
 
 // The lines behind `SS` and so many steps, from a state and a code.
@@ -129,7 +112,8 @@ fn add_steps(
     while end < run.len() {
         let got = run_lines::vector_line(t.head, done as usize, &run[at..end]);
         let Ok(x) = got else {
-            return add_end(out, to, vector_reason(got), done as usize + 2);
+            let refusal = got.err().unwrap_or(Refusal::BadLine);
+            return add_end(out, to, refusal, done as usize + 2);
         };
         let m = step_both(t, terms, width, x, s, code);
         if m.next == 0 {
@@ -159,7 +143,8 @@ fn add_first(out: &mut [u8], part: Part, t: Listing, terms: Terms, bits: &[u64],
     }
     let got = run_lines::start_line(t.head, &run[0..end]);
     let Ok(s) = got else {
-        return add_end(out, part, start_reason(got), 1);
+        let refusal = got.err().unwrap_or(Refusal::BadLine);
+        return add_end(out, part, refusal, 1);
     };
     let start = s.0;
     let code = run_encoded::code_of(bits, start);

@@ -7,12 +7,8 @@ use Rattle.run_print.proofs.add_step.Goals as goal
 pub returns-then-width-gt-MOST_BITS : goal.returns-then-width-gt-MOST_BITS
 returns-then-width-gt-MOST_BITS c =
     let a = c.args in
-    sym (within-not a.state a.width a.code a.outputs a.n (a.part, a.out.now) (inl c.if-width-gt-MOST_BITS.true))
-
-pub returns-then-n-gt-MOST_OUTPUTS : goal.returns-then-n-gt-MOST_OUTPUTS
-returns-then-n-gt-MOST_OUTPUTS c =
-    let a = c.args in
-    sym (within-not a.state a.width a.code a.outputs a.n (a.part, a.out.now) (inr c.if-n-gt-MOST_OUTPUTS.true))
+    let none = within-not a.state a.width a.code a.outputs a.n (a.part, a.out.now) in
+    elim c.then-width-gt-MOST_BITS.either [ inl h ↦ sym (none (inl h)) | inr h ↦ sym (none (inr h.1)) ]
 
 pub returns : goal.returns
 returns c =

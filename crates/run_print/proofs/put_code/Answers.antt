@@ -8,7 +8,7 @@ returns-then-width-eq0 c =
     let a = c.args in
     wrote_as c.put_byte.ensures (code-none a.width a.code c.if-width-eq0.true)
 
-pub returns : goal.returns
-returns c =
+pub returns-else-width-eq0 : goal.returns-else-width-eq0
+returns-else-width-eq0 c =
     let a = c.args in
     wrote_as c.put_digits.ensures (code-some a.width a.code c.if-width-eq0.false)

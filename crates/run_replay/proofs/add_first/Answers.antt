@@ -3,7 +3,7 @@ use mathlib.Core.Path.{sym, ap, ◌∙◌}
 use native.Mathlib.Omega.{arith}
 use Rattle.read_pieces.proofs.Laws.{cut_of}
 use Rattle.run_replay.specs.Places.{Course, ran_on}
-use Rattle.run_replay.proofs.Lines.{start-reason-is, whole-missing, whole-refused, whole-read}
+use Rattle.run_replay.proofs.Lines.{reason-is, whole-missing, whole-refused, whole-read}
 use Rattle.run_replay.proofs.add_first.Goals as goal
 
 pub returns-then-run-end : goal.returns-then-run-end
@@ -17,7 +17,7 @@ pub returns-in_default : goal.returns-in_default
 returns-in_default c =
     let a = c.args in
     let cut = cut_of _ _ 0 (omega arith) c.cut-end.ensures in
-    let e = start-reason-is _ c.in_default.is c.start_reason.ensures in
+    let e = reason-is _ c.in_default.is c.err.ensures.value c.unwrap_or-refusal.ensures in
     c.add_end-in_default.ensures
     ∙ ap (λ (g : Course). ran_on g (a.part, a.out.now)) (sym (whole-refused a.t a.terms a.bits.now a.run.now _ cut c.if-run-end.false (sym c.start_line-got.ensures ∙ e)))
 
@@ -27,4 +27,4 @@ returns c =
     let cut = cut_of _ _ 0 (omega arith) c.cut-end.ensures in
     c.add_steps.ensures
     ∙ ap (λ (g : Course). ran_on g (a.part, a.out.now))
-    (sym (whole-read a.t a.terms a.bits.now a.run.now _ cut c.if-run-end.false (sym c.start_line-got.ensures ∙ c.in-Read.is) c.code_of-code.ensures))
+    (sym (whole-read a.t a.terms a.bits.now a.run.now _ cut c.if-run-end.false (sym c.start_line-got.ensures ∙ c.in-Ok.is) c.code_of-code.ensures))

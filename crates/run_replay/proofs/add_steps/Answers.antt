@@ -17,7 +17,7 @@ loop-end-init c =
 pub returns-in_default : goal.returns-in_default
 returns-in_default c =
     let a = c.args in
-    let e = reason-is _ c.in_default.is c.vector_reason.ensures in
+    let e = reason-is _ c.in_default.is c.err.ensures.value c.unwrap_or-refusal.ensures in
     c.add_end.ensures
     ∙ ap (λ (g : Course). ran_on g (c.loop-end.to, c.loop-end.out))
     (sym (cut-refused a.t a.terms a.width a.run.now c.loop-end.at c.loop-end.end c.loop-end.invariant.0 c.loop-end.done c.loop-end.s c.loop-end.code c.loop-end-test.true (sym c.vector_line-got.ensures ∙ e)))
@@ -28,17 +28,17 @@ returns-then-m-eq0 c =
     let a = c.args in
     c.add_end-then-m-eq0.ensures
     ∙ ap (λ (g : Course). ran_on g (c.loop-end.to, c.loop-end.out))
-    (sym (cut-ends a.t a.terms a.width a.run.now c.loop-end.at c.loop-end.end c.loop-end.invariant.0 c.loop-end.done c.loop-end.s c.loop-end.code c.loop-end-test.true (sym c.vector_line-got.ensures ∙ c.in-Read.is) c.step_both-m.ensures c.if-m-eq0.true))
+    (sym (cut-ends a.t a.terms a.width a.run.now c.loop-end.at c.loop-end.end c.loop-end.invariant.0 c.loop-end.done c.loop-end.s c.loop-end.code c.loop-end-test.true (sym c.vector_line-got.ensures ∙ c.in-Ok.is) c.step_both-m.ensures c.if-m-eq0.true))
     ∙ c.loop-end.invariant.3
 
 pub overflow_add-done-in-loop-end : goal.overflow_add-done-in-loop-end
 overflow_add-done-in-loop-end c =
-    omega (arith, read-few _ _ _ (sym c.vector_line-got.ensures ∙ c.in-Read.is))
+    omega (arith, read-few _ _ _ (sym c.vector_line-got.ensures ∙ c.in-Ok.is))
 
 pub loop-end-preserved : goal.loop-end-preserved
 loop-end-preserved c =
     let a = c.args in
-    let e = sym c.vector_line-got.ensures ∙ c.in-Read.is in
+    let e = sym c.vector_line-got.ensures ∙ c.in-Ok.is in
     let more = c.loop-end-test.true in
     let put = c.add_step-to.ensures in (
       cut_of _ _ (c.loop-end.end + 1) (omega (arith, more)) c.cut-end-in-loop-end.ensures,
