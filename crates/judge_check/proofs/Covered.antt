@@ -18,8 +18,7 @@ use Rattle.rules.specs.Text.{dot, field_at, fields_of}
 use Rattle.rules.specs.Listing.{no_pattern, some}
 use Rattle.rules.specs.CheckTexts.{no_heads, places_fit, row_good, with_row, cover_line, cover_from, cover_reading}
 use Rattle.rules.specs.declared.CoverPart.TheVariants.{Rows}
-use Rattle.rules.specs.declared.Refusal.TheVariants.{BadLine}
-use Rattle.rules.specs.declared.Verdict.{Verdict}
+use Rattle.rules.specs.Refusals.{Verdict, refused}
 use Rattle.rules.specs.declared.Head.{Head}
 use Rattle.rules.specs.declared.Row.{Row}
 use Rattle.rules.specs.declared.CoverHeads.{CoverHeads}
@@ -214,23 +213,23 @@ module _ (q : Reader) where
               ap any laid_so ∙ put-says h l t room d.2 (good-row h l d.1 fit),
             )
 
-    covered-from : (k : ℕ) (h : CoverHeads) (ls : List (List ℕ)) (t : Tables) → Room h t → cover_from q.taken q.given k h ls ≡ Verdict.Accepted → any (tables_from q h ls t) ≡ (any t || some line ls)
+    covered-from : (k : ℕ) (h : CoverHeads) (ls : List (List ℕ)) (t : Tables) → Room h t → cover_from q.taken q.given k h ls ≡ Ok tt → any (tables_from q h ls t) ≡ (any t || some line ls)
     unfolding cover_from tables_from some
-    covered-from k h [] t room ok = absurd (not-accepted BadLine k ok)
+    covered-from k h [] t room ok = absurd (not-accepted ok)
     covered-from k h (l ∷ []) t room ok =
         sym (ap (λ (b : Bool). any t || (b || false)) (ap line (end_none q.taken q.given k h l ok).0 ∙ empty) ∙ or-false (any t))
     covered-from k h (l ∷ (m ∷ ms)) t room ok = go (cover_line h l) refl ok (λ g u. covered-from (k + 1) g (m ∷ ms) u)
       where
-        go : (c : Result CoverHeads Refusal) → cover_line h l ≡ c → elim c [ Ok g ↦ cover_from q.taken q.given (k + 1) g (m ∷ ms) | Err r ↦ Verdict.Refused r k ] ≡ Verdict.Accepted
-            → ((g : CoverHeads) (u : Tables) → Room g u → cover_from q.taken q.given (k + 1) g (m ∷ ms) ≡ Verdict.Accepted → any (tables_from q g (m ∷ ms) u) ≡ (any u || some line (m ∷ ms)))
+        go : (c : Result CoverHeads Refusal) → cover_line h l ≡ c → ◌≡◌ {A = Verdict} (elim c [ Ok g ↦ cover_from q.taken q.given (k + 1) g (m ∷ ms) | Err refusal ↦ refused refusal k ]) (Ok tt)
+            → ((g : CoverHeads) (u : Tables) → Room g u → cover_from q.taken q.given (k + 1) g (m ∷ ms) ≡ Ok tt → any (tables_from q g (m ∷ ms) u) ≡ (any u || some line (m ∷ ms)))
             → any (elim c [ Ok g ↦ tables_from q g (m ∷ ms) (row_laid q h g l t) | Err r ↦ t ]) ≡ (any t || (line l || some line (m ∷ ms)))
         go (Ok g) e fine later =
             let done = step h g l t e (λ part. rows_fit q.taken q.given k h (l ∷ (m ∷ ms)) part ok) room in
             later g (row_laid q h g l t) done.0 fine ∙ ap (λ (b : Bool). b || some line (m ∷ ms)) done.1 ∙ or_assoc (any t) (line l) (some line (m ∷ ms))
-        go (Err r) e fine later = absurd (not-accepted r k fine)
+        go (Err r) e fine later = absurd (not-accepted fine)
 
     -- from tables that hold no row of a cover
-    pub covered-lines : (ls : List (List ℕ)) (t : Tables) → Room no_heads t → cover_reading q.taken q.given ls ≡ Verdict.Accepted → any (tables_from q no_heads ls t) ≡ some line ls
+    pub covered-lines : (ls : List (List ℕ)) (t : Tables) → Room no_heads t → cover_reading q.taken q.given ls ≡ Ok tt → any (tables_from q no_heads ls t) ≡ some line ls
     unfolding cover_reading
     covered-lines ls t room ok =
         covered-from 1 no_heads ls t room ok

@@ -1,7 +1,7 @@
 -- The search fails at a state and an input exactly where the cover does not agree with the listing: the tables hold what the listing means and what the cover says.
 use mathlib.Core.Path.{◌≡◌, refl, sym, ap, ap₂, subst, ◌∙◌}
 use mathlib.Core.Bool.{Bool, true, false, ◌&&◌, ◌||◌, not, cond, and-false}
-use mathlib.Core.List.{List, [], ◌∷◌, ◌++◌, map}
+use mathlib.Core.List.{List, [], ◌++◌, map}
 use Prim.Native.Nat.{ℕ, ◌+◌, ◌*◌, ◌≤◌, ◌<◌, min}
 use native.Mathlib.Nat.{zero-add}
 use native.Mathlib.Decide.{ℕ_discrete}
@@ -26,7 +26,6 @@ use Rattle.rules.specs.Check.{bits_of, fails}
 use Rattle.rules.specs.declared.Row.{Row}
 use Rattle.rules.specs.declared.Listing.{Listing}
 use Rattle.rules.specs.declared.CodeTable.{CodeTable}
-use Rattle.rules.specs.declared.Verdict.{Verdict}
 use Rattle.rules.proofs.Agreeing.{each-state, dot-fires}
 use Rattle.rules.proofs.Most.{states-length}
 use Rattle.rules.proofs.Some.{none-some}
@@ -49,6 +48,7 @@ use Rattle.judge_check.proofs.Made.{bit_at}
 use Rattle.judge_check.proofs.Lines.{line-fires, says-bit, says-output, says-no-bit, says-no-output}
 use Rattle.judge_check.proofs.Covered.{Tables, Room, GoodRow, covered-lines, stand-cover}
 use Rattle.judge_check.proofs.Next.{none_named, listed-code, listed-no-code}
+use Rattle.std.specs.Prelude.{Ok}
 
 -- an output of a listing has no digit past its outputs
 outputs-fit : (t : Listing) → Sound t → (k : ℕ) → k < length (all_rows t) → SoundPattern t.head.outputs (get_or (all_rows t) k no_row).outputs
@@ -115,7 +115,7 @@ module _ (t : Listing) (sound : Sound t) (apart : Apart (all_rows t)) (c : CodeT
     rest = λ r a b. behind-listing (all_rows t) c.table (all-few t sound) r (omega arith);
   }
 
-  module _ (read : cover_reading (t.head.inputs + c.width) (c.width + t.head.outputs) ls ≡ Verdict.Accepted) (s : ℕ) (is_state : s < t.head.states) (v : ℕ) where
+  module _ (read : cover_reading (t.head.inputs + c.width) (c.width + t.head.outputs) ls ≡ Ok tt) (s : ℕ) (is_state : s < t.head.states) (v : ℕ) where
     abbrev x : ℕ
     x = turned i v
 

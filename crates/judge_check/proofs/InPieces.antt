@@ -13,12 +13,12 @@ use Rattle.rules.specs.Check.{check_reply}
 use Rattle.rules.specs.declared.Listing.{Listing}
 use Rattle.rules.specs.declared.CodeTable.{CodeTable}
 use Rattle.rules.specs.declared.Refusal.TheVariants.{Limit}
-use Rattle.rules.specs.declared.Verdict.{Verdict}
 use Rattle.judge_reading.proofs.InPieces.{Found, joined, in_pieces, cover-in-pieces}
-use Rattle.judge_check.specs.Checked.{reader_for, begun, listing_tables, finished, cover_checked, reply_of}
+use Rattle.judge_check.specs.Checked.{Beginning, reader_for, begun, listing_tables, finished, cover_checked, reply_of}
 use Rattle.judge_check.specs.declared.Begun.{Begun}
 use Rattle.judge_check.proofs.Replies.{reply-read}
 use Rattle.judge_reading.specs.Pieces.{at_line}
+use Rattle.std.specs.Prelude.{Ok}
 
 module _ (t : Listing) (c : CodeTable) (ps : List (List ℕ)) (last : List ℕ) where
   -- what is found of the pieces
@@ -30,9 +30,9 @@ module _ (t : Listing) (c : CodeTable) (ps : List (List ℕ)) (last : List ℕ) 
   pieces-checked = ap (λ (f : Found (reader_for t.head c)). finished t c f.0 f.1) (cover-in-pieces (reader_for t.head c) ps last (listing_tables t c))
 
 -- by the listing and the codes that were read
-pub pieces-reply : (s codes : List ℕ) (ps : List (List ℕ)) (last : List ℕ) {b : Begun} → b ≡ begun s codes → b.verdict ≡ Verdict.Accepted
+pub pieces-reply : (s codes : List ℕ) (ps : List (List ℕ)) (last : List ℕ) {b : Begun} → ◌≡◌ {A = Beginning} (Ok b) (begun s codes)
     → reply_of (finished b.listing b.codes (piecesFound b.listing b.codes ps last).0 (piecesFound b.listing b.codes ps last).1) ≡ check_reply s codes (joined ps last)
-pieces-reply s codes ps last {b} e p = reply-read s codes (joined ps last) e p (pieces-checked b.listing b.codes ps last)
+pieces-reply s codes ps last {b} e = reply-read s codes (joined ps last) e (pieces-checked b.listing b.codes ps last)
 
 -- whatever the codes and the cover are
 pub too_long : (s codes cover : List ℕ) → most_bytes < length s → check_reply s codes cover ≡ refuses Limit 0

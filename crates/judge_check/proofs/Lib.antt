@@ -6,4 +6,3 @@ pub mod Made
 pub mod Next
 pub mod ReadCodes
 pub mod Replies
-pub mod Steps

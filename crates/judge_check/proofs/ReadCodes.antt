@@ -13,14 +13,14 @@ use Rattle.sets.proofs.Every.{and_first, and_second}
 use Rattle.rules.specs.Limits.{most_states, most_bits}
 use Rattle.rules.specs.Text.{bytes, dash, nought, one, same, mark_of, fields_of, field_at, all_of, sized, set_of}
 use Rattle.rules.specs.Listing.{nothing}
-use Rattle.rules.specs.CheckTexts.{code_fits, width_in, is_number, code_good, codes_refused, codes_read, with_code, codes_from, codes_reading}
+use Rattle.rules.specs.CheckTexts.{code_fits, width_in, is_number, code_good, with_code, codes_from, codes_reading, CodesReading}
 use Rattle.rules.specs.declared.Refusal.TheVariants.{BadLine}
-use Rattle.rules.specs.declared.Verdict.{Verdict}
 use Rattle.rules.specs.declared.CodeTable.{CodeTable}
-use Rattle.rules.specs.declared.CodesReading.{CodesReading}
+use Rattle.rules.specs.Refusals.{refused}
 use Rattle.rules.proofs.Characters.{sized-length, sized_set}
 use Rattle.rules.proofs.Known.{same-eq}
-use Rattle.rules.proofs.Ways.{not-accepted}
+use Rattle.rules.proofs.Ways.{not-accepted, same-accepted}
+use Rattle.std.specs.Prelude.{Ok}
 
 pub record FitCodes (n : ℕ) (c : CodeTable) : Type 0 where
   pub few : c.width ≤ most_bits
@@ -51,10 +51,6 @@ good-code w s l e =
 
 -- ---- line by line
 
-refused-not : (k : ℕ) → (codes_refused k).verdict ≡ Verdict.Accepted → ⊥
-unfolding codes_refused
-refused-not k e = not-accepted BadLine k e
-
 -- codes of the states below s
 abbrev Front : ℕ → CodeTable → Type 0
 Front s c = (length c.table ≡ most_states) × ((y : ℕ) → y < s → get_or c.table y 0 < 2 ^ c.width)
@@ -66,24 +62,25 @@ one_more s m c h fits front = (length-set c.table s m ∙ front.0, λ y l. go y 
     go y l (yes e) = subst (λ (x : ℕ). x < 2 ^ c.width) (sym (ap (λ (k : ℕ). get_or (set c.table s m) k 0) e ∙ get_or-set_same c.table s m 0 (omega (arith, front.0)))) fits
     go y l (no o) = subst (λ (x : ℕ). x < 2 ^ c.width) (sym (get_or-set_other c.table s y m 0 o)) (front.1 y (omega (arith, o)))
 
-abbrev Whole : ℕ → CodeTable → CodesReading → Type 0
-Whole n c r = (r.codes.width ≡ c.width) × Front n r.codes
+abbrev Whole : ℕ → CodeTable → CodeTable → Type 0
+Whole n c d = (d.width ≡ c.width) × Front n d
 
 -- what is read if a test holds, else a refusal at line k
 abbrev tested : Bool → CodesReading → ℕ → CodesReading
-tested b r k = elim b [ true ↦ r | false ↦ codes_refused k ]
+tested b r k = elim b [ true ↦ r | false ↦ refused BadLine k ]
 
-read-end : (s : ℕ) (c : CodeTable) (b : Bool) → Front s c → (tested b (codes_read c) (s + 1)).verdict ≡ Verdict.Accepted → Whole (s + 0) c (tested b (codes_read c) (s + 1))
-unfolding codes_read
-read-end s c true front e = let none : s ≡ s + 0 = omega arith in (refl, subst (λ (n : ℕ). Front n c) none front)
-read-end s c false front e = absurd (refused-not (s + 1) e)
+read-end : (s : ℕ) (c d : CodeTable) (b : Bool) → Front s c → tested b (Ok c) (s + 1) ≡ Ok d → Whole (s + 0) c d
+read-end s c d true front e =
+    let none : s ≡ s + 0 = omega arith in
+    subst (Whole (s + 0) c) (same-accepted e) (refl, subst (λ (n : ℕ). Front n c) none front)
+read-end s c d false front e = absurd (not-accepted e)
 
-read-from : (s k : ℕ) (c : CodeTable) (ls : List (List ℕ)) → s + k ≤ most_states → Front s c → (codes_from s k c ls).verdict ≡ Verdict.Accepted → Whole (s + k) c (codes_from s k c ls)
+read-from : (s k : ℕ) (c d : CodeTable) (ls : List (List ℕ)) → s + k ≤ most_states → Front s c → codes_from s k c ls ≡ Ok d → Whole (s + k) c d
 unfolding codes_from
-read-from s zero c ls few front e = read-end s c (nothing ls) front e
-read-from s (suc k) c [] few front e = absurd (refused-not (s + 1) e)
-read-from s (suc k) c (l ∷ []) few front e = absurd (refused-not (s + 1) e)
-read-from s (suc k) c (l ∷ (m ∷ ms)) few front e = go (code_good c.width s l) refl e (read-from (s + 1) k (with_code s code c) (m ∷ ms) (omega arith))
+read-from s zero c d ls few front e = read-end s c d (nothing ls) front e
+read-from s (suc k) c d [] few front e = absurd (not-accepted e)
+read-from s (suc k) c d (l ∷ []) few front e = absurd (not-accepted e)
+read-from s (suc k) c d (l ∷ (m ∷ ms)) few front e = go (code_good c.width s l) refl e (read-from (s + 1) k (with_code s code c) d (m ∷ ms) (omega arith))
   where
     code : ℕ
     code = set_of one (field_at l 2)
@@ -94,30 +91,29 @@ read-from s (suc k) c (l ∷ (m ∷ ms)) few front e = go (code_good c.width s l
     next : s + 1 + k ≡ s + suc k
     next = omega arith
 
-    go : (b : Bool) → code_good c.width s l ≡ b → (tested b more (s + 1)).verdict ≡ Verdict.Accepted
-        → (Front (s + 1) (with_code s code c) → more.verdict ≡ Verdict.Accepted → Whole (s + 1 + k) (with_code s code c) more) → Whole (s + suc k) c (tested b more (s + 1))
-    go true q e later = subst (λ (n : ℕ). Whole n c more) next (later (one_more s code c (omega arith) (good-code c.width s l q).0 front) e)
-    go false q e later = absurd (refused-not (s + 1) e)
+    go : (b : Bool) → code_good c.width s l ≡ b → tested b more (s + 1) ≡ Ok d → (Front (s + 1) (with_code s code c) → more ≡ Ok d → Whole (s + 1 + k) (with_code s code c) d) → Whole (s + suc k) c d
+    go true q e later = subst (λ (n : ℕ). Whole n c d) next (later (one_more s code c (omega arith) (good-code c.width s l q).0 front) e)
+    go false q e later = absurd (not-accepted e)
 
 -- the width is that of the first line, which there is
-first-few : (k : ℕ) (c : CodeTable) (ls : List (List ℕ)) → (codes_from 0 (suc k) c ls).verdict ≡ Verdict.Accepted → c.width ≤ most_bits
+first-few : (k : ℕ) (c d : CodeTable) (ls : List (List ℕ)) → codes_from 0 (suc k) c ls ≡ Ok d → c.width ≤ most_bits
 unfolding codes_from
-first-few k c [] e = absurd (refused-not (0 + 1) e)
-first-few k c (l ∷ []) e = absurd (refused-not (0 + 1) e)
-first-few k c (l ∷ (m ∷ ms)) e = go (code_good c.width 0 l) refl e
+first-few k c d [] e = absurd (not-accepted e)
+first-few k c d (l ∷ []) e = absurd (not-accepted e)
+first-few k c d (l ∷ (m ∷ ms)) e = go (code_good c.width 0 l) refl e
   where
     more : CodesReading
     more = codes_from (0 + 1) k (with_code 0 (set_of one (field_at l 2)) c) (m ∷ ms)
 
-    go : (b : Bool) → code_good c.width 0 l ≡ b → (tested b more (0 + 1)).verdict ≡ Verdict.Accepted → c.width ≤ most_bits
+    go : (b : Bool) → code_good c.width 0 l ≡ b → tested b more (0 + 1) ≡ Ok d → c.width ≤ most_bits
     go true q e = (good-code c.width 0 l q).1
-    go false q e = absurd (refused-not (0 + 1) e)
+    go false q e = absurd (not-accepted e)
 
-pub codes-fit : (n : ℕ) (ls : List (List ℕ)) → 1 ≤ n → n ≤ most_states → (codes_reading n ls).verdict ≡ Verdict.Accepted → FitCodes n (codes_reading n ls).codes
+pub codes-fit : (n : ℕ) (ls : List (List ℕ)) {d : CodeTable} → 1 ≤ n → n ≤ most_states → codes_reading n ls ≡ Ok d → FitCodes n d
 unfolding codes_reading
-codes-fit n ls some few e =
+codes-fit n ls {d} some few e =
     let c : CodeTable = record { width = width_in (get_or ls 0 []); table = replicate most_states 0 } in
-    let r = read-from 0 n c ls (omega arith) (length-replicate {A = ℕ} most_states 0, λ y l. absurd (omega arith)) e in
+    let r = read-from 0 n c d ls (omega arith) (length-replicate {A = ℕ} most_states 0, λ y l. absurd (omega arith)) e in
     let z : 0 + n ≡ n = omega arith in
     record {
       few = subst (λ (w : ℕ). w ≤ most_bits) (sym r.0) (width n some e);
@@ -125,6 +121,6 @@ codes-fit n ls some few e =
       code = λ s l. r.1.1 s (omega (arith, z));
     }
   where
-    width : (n : ℕ) → 1 ≤ n → (codes_from 0 n (record { width = width_in (get_or ls 0 []); table = replicate most_states 0 }) ls).verdict ≡ Verdict.Accepted → width_in (get_or ls 0 []) ≤ most_bits
+    width : (n : ℕ) → 1 ≤ n → codes_from 0 n (record { width = width_in (get_or ls 0 []); table = replicate most_states 0 }) ls ≡ Ok d → width_in (get_or ls 0 []) ≤ most_bits
     width zero h e = absurd (omega arith)
-    width (suc k) h e = first-few k (record { width = width_in (get_or ls 0 []); table = replicate most_states 0 }) ls e
+    width (suc k) h e = first-few k (record { width = width_in (get_or ls 0 []); table = replicate most_states 0 }) d ls e

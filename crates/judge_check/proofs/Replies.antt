@@ -1,6 +1,6 @@
 -- What checking finds is the reply of 02.
-use Rattle.std.specs.Prelude.{Option, Some, None}
-use mathlib.Core.Path.{◌≡◌, refl, sym, ap, ap₂, ◌∙◌}
+use Rattle.std.specs.Prelude.{Option, Some, None, Ok, Err}
+use mathlib.Core.Path.{◌≡◌, refl, ap, ap₂, ◌∙◌}
 use mathlib.Core.Bool.{Bool}
 use mathlib.Core.List.{List, [], ◌∷◌, map}
 use Prim.Native.Nat.{ℕ, zero, suc, ◌+◌, ◌-◌, ◌^◌, ◌<◌, min}
@@ -9,18 +9,17 @@ use lib.ListN.{take}
 use Rattle.sets.specs.Sets.{states_from}
 use Rattle.rules.specs.Limits.{most_states, most_inputs, most_outputs, most_bits}
 use Rattle.rules.specs.Text.{lines_of}
-use Rattle.rules.specs.Listing.{all_rows, reading}
+use Rattle.rules.specs.Listing.{all_rows, reading, Reading}
 use Rattle.rules.specs.Requirements.{pairs_and_groups, requirements}
 use Rattle.rules.specs.Code.{unmet_from}
 use Rattle.rules.specs.Answers.{Reply, says, refuses, on_reading}
-use Rattle.rules.specs.CheckTexts.{bit_in, no_heads, codes_reading, cover_reading}
-use Rattle.rules.specs.Check.{fault_from, fault_of, bits_of, fails, check_line, check_text, check_cover, check_codes, check_reply}
+use Rattle.rules.specs.CheckTexts.{CodesReading, bit_in, no_heads, codes_reading, cover_reading}
+use Rattle.rules.specs.Check.{fault_at, fault_from, fault_of, bits_of, fails, check_line, check_text, check_cover, check_codes, check_reply}
 use Rattle.rules.specs.declared.Requirement.{Requirement}
 use Rattle.rules.specs.declared.Listing.{Listing}
 use Rattle.rules.specs.declared.CodeTable.{CodeTable}
 use Rattle.rules.specs.declared.Fault.{Fault}
-use Rattle.rules.specs.declared.Reading.{Reading}
-use Rattle.rules.specs.declared.Verdict.{Verdict}
+use Rattle.rules.specs.Refusals.{Verdict}
 use Rattle.rules.proofs.Good.{requirements-good}
 use Rattle.rules.proofs.Sound.{Sound, accepted-sound}
 use Rattle.rules.proofs.Sharing.{accepted-apart}
@@ -37,13 +36,11 @@ use Rattle.judge_codes.specs.Lines.{all_bits}
 use Rattle.judge_reading.specs.Tables.{tables_from}
 use Rattle.judge_reading.specs.declared.Reader.{Reader}
 use Rattle.judge_unmet.specs.First.{first_of}
-use Rattle.judge_unmet.specs.declared.Unmet.{Unmet}
-use Rattle.judge_check.specs.Checked.{reader_of, reader_for, refused_begun, codes_begun, begun_by, begun, listing_tables, settled, finished, cover_checked, found_of, reply_of}
+use Rattle.judge_check.specs.Checked.{Beginning, Finding, reader_of, reader_for, codes_begun, begun_by, begun, listing_tables, settled, finished, cover_checked, found_of, line_of, reply_of}
 use Rattle.judge_check.specs.declared.Begun.{Begun}
 use Rattle.judge_check.specs.declared.Checked.{Checked}
 use Rattle.judge_check.proofs.ReadCodes.{FitCodes, codes-fit}
 use Rattle.judge_check.proofs.Failing.{fails-there}
-use Rattle.judge_check.proofs.Steps.{found-cover}
 
 -- ---- faults of tests that say the same
 
@@ -81,7 +78,7 @@ module _ (t : Listing) (sound : Sound t) (apart : Apart (all_rows t)) (c : CodeT
       ∙ unmet-wide n (omega (arith, sound.head.few-states)) 0 (bits_of n c) (pairs_and_groups t) (good-front n (pairs_and_groups t) _ (requirements-good t sound))
 
   -- when all is read
-  module _ (ls : List (List ℕ)) (read : cover_reading (t.head.inputs + c.width) (c.width + t.head.outputs) ls ≡ Verdict.Accepted) where
+  module _ (ls : List (List ℕ)) (read : cover_reading (t.head.inputs + c.width) (c.width + t.head.outputs) ls ≡ Ok tt) where
     abbrev both : List ℕ × List ℕ
     both = tables_from (reader_of t c) no_heads ls (listing_tables t c)
 
@@ -92,13 +89,13 @@ module _ (t : Listing) (sound : Sound t) (apart : Apart (all_rows t)) (c : CodeT
         ap (λ (k : ℕ). fault_from (fails_at both.0 both.1 k) k 0 n) i
         ∙ fault-like (fails_at both.0 both.1 t.head.inputs) (fails t (bits_of n c) ls) t.head.inputs 0 n (λ s l v. fails-there t sound apart c fit ls read s (omega arith) v)
 
-    settled_is : reply_of (settled t c both) ≡ says (check_text t (bits_of n c) ls)
-    unfolding settled check_text first_of reply_of check_line
+    settled_is : line_of (settled t c both) ≡ check_text t (bits_of n c) ls
+    unfolding settled check_text first_of line_of check_line
     settled_is =
-        ap₂ (λ (us : List ℕ) (f : Option Fault). reply_of (elim (first_of us) [ Unmet.At r ↦ Checked.Unmet r | Unmet.Nothing ↦ Checked.Judged f ])) unmet-are fault-is
+        ap₂ (λ (us : List ℕ) (f : Option Fault). line_of (elim (first_of us) [ Some r ↦ Checked.Unmet r | None ↦ Checked.Judged f ])) unmet-are fault-is
         ∙ go (unmet_from 0 n (bits_of n c) (pairs_and_groups t)) (fault_of t (bits_of n c) ls)
       where
-        go : (us : List ℕ) (f : Option Fault) → reply_of (elim (first_of us) [ Unmet.At r ↦ Checked.Unmet r | Unmet.Nothing ↦ Checked.Judged f ]) ≡ says (check_line us f)
+        go : (us : List ℕ) (f : Option Fault) → line_of (elim (first_of us) [ Some r ↦ Checked.Unmet r | None ↦ Checked.Judged f ]) ≡ check_line us f
         go [] f = refl
         go (u ∷ us) f = refl
 
@@ -119,59 +116,47 @@ module _ (t : Listing) (sound : Sound t) (apart : Apart (all_rows t)) (c : CodeT
     where
       go : (v : Verdict) → cover_reading (t.head.inputs + c.width) (c.width + t.head.outputs) ls ≡ v
           → reply_of (finished t c v (tables_from (reader_of t c) no_heads ls (listing_tables t c)))
-          ≡ elim v [ Verdict.Accepted ↦ says (check_text t (bits_of t.head.states c) ls) | Verdict.Refused r k ↦ refuses r k ]
-      go Verdict.Accepted e = settled_is ls e
-      go (Verdict.Refused r k) e = refl
+          ≡ elim v [ Ok _ ↦ says (check_text t (bits_of t.head.states c) ls) | Err why ↦ refuses why.refusal why.line ]
+      go (Ok tt) e = ap says (settled_is ls e)
+      go (Err why) e = refl
 
 -- ---- by what was begun
 
 module _ (s codes : List ℕ) (ls : List (List ℕ)) where
-  abbrev found : Begun → Reply
-  found b = elim b.verdict [ Verdict.Accepted ↦ reply_of (cover_checked b.listing b.codes ls) | Verdict.Refused r k ↦ refuses r k ]
+  abbrev reply : Beginning → Reply
+  reply b = reply_of (found_of b ls)
 
-  found-so : (b : Begun) → reply_of (found_of b ls) ≡ found b
-  unfolding found_of reply_of
-  found-so b = go b.verdict
-    where
-      go : (v : Verdict) → reply_of (elim v [ Verdict.Accepted ↦ cover_checked b.listing b.codes ls | Verdict.Refused r k ↦ Checked.Refused r k ])
-          ≡ elim v [ Verdict.Accepted ↦ reply_of (cover_checked b.listing b.codes ls) | Verdict.Refused r k ↦ refuses r k ]
-      go Verdict.Accepted = refl
-      go (Verdict.Refused r k) = refl
-
-  codes-is : (t : Listing) → Sound t → Apart (all_rows t) → found (codes_begun t (lines_of codes)) ≡ check_codes t (lines_of codes) ls
-  unfolding codes_begun check_codes
+  codes-is : (t : Listing) → Sound t → Apart (all_rows t) → reply (codes_begun t (lines_of codes)) ≡ check_codes t (lines_of codes) ls
+  unfolding codes_begun check_codes found_of reply_of
   codes-is t sound apart =
       let all : min t.head.states most_states ≡ t.head.states = omega (arith, sound.head.few-states) in
-      ap (λ (n : ℕ). by (codes_reading n (lines_of codes)).verdict (codes_reading n (lines_of codes)).codes) all
-      ∙ go (codes_reading t.head.states (lines_of codes)).verdict refl
+      ap (λ (n : ℕ). by (codes_reading n (lines_of codes))) all ∙ go (codes_reading t.head.states (lines_of codes)) refl
     where
-      by : Verdict → CodeTable → Reply
-      by v c = elim v [ Verdict.Accepted ↦ reply_of (cover_checked t c ls) | Verdict.Refused r k ↦ refuses r k ]
+      by : CodesReading → Reply
+      by r = reply (elim r [ Ok c ↦ Ok (record { listing = t; codes = c }) | Err why ↦ Err why ])
 
-      go : (v : Verdict) → (codes_reading t.head.states (lines_of codes)).verdict ≡ v
-          → by v (codes_reading t.head.states (lines_of codes)).codes ≡ elim v [ Verdict.Accepted ↦ check_cover t (codes_reading t.head.states (lines_of codes)).codes ls | Verdict.Refused r k ↦ refuses r k ]
-      go Verdict.Accepted e = cover-is t sound apart (codes_reading t.head.states (lines_of codes)).codes (codes-fit t.head.states (lines_of codes) sound.head.some-states sound.head.few-states e) ls
-      go (Verdict.Refused r k) e = refl
+      go : (r : CodesReading) → codes_reading t.head.states (lines_of codes) ≡ r → by r ≡ elim r [ Ok c ↦ check_cover t c ls | Err why ↦ refuses why.refusal why.line ]
+      go (Ok c) e = cover-is t sound apart c (codes-fit t.head.states (lines_of codes) sound.head.some-states sound.head.few-states e) ls
+      go (Err why) e = refl
 
-  begun-is : found (begun s codes) ≡ on_reading (reading s) (λ t. check_codes t (lines_of codes) ls)
-  unfolding begun begun_by
-  begun-is = go (reading s).verdict refl
+  begun-is : reply (begun s codes) ≡ on_reading (reading s) (λ t. check_codes t (lines_of codes) ls)
+  unfolding begun begun_by found_of reply_of
+  begun-is = go (reading s) refl
     where
-      go : (v : Verdict) → (reading s).verdict ≡ v
-          → found (elim v [ Verdict.Accepted ↦ codes_begun (reading s).listing (lines_of codes) | Verdict.Refused r k ↦ refused_begun r k (reading s).listing ])
-          ≡ elim v [ Verdict.Accepted ↦ check_codes (reading s).listing (lines_of codes) ls | Verdict.Refused r k ↦ refuses r k ]
-      go Verdict.Accepted e = codes-is (reading s).listing (accepted-sound s e) (all_apart (reading s).listing (accepted-apart s e))
-      go (Verdict.Refused r k) e = refl
+      go : (r : Reading) → reading s ≡ r → reply (begun_by r (lines_of codes)) ≡ on_reading r (λ t. check_codes t (lines_of codes) ls)
+      go (Ok t) e = codes-is t (accepted-sound s e) (all_apart t (accepted-apart s e))
+      go (Err why) e = refl
 
 -- of any bytes
 pub found-is : (s codes cover : List ℕ) → reply_of (found_of (begun s codes) (lines_of cover)) ≡ check_reply s codes cover
 unfolding check_reply
-found-is s codes cover = found-so s codes (lines_of cover) (begun s codes) ∙ begun-is s codes (lines_of cover)
+found-is s codes cover = begun-is s codes (lines_of cover)
 
 -- by the reading, as it is begun and done
-pub check-is : (s codes cover : List ℕ) {got : Reading} {x : Checked} → got ≡ reading s → x ≡ found_of (begun_by got (lines_of codes)) (lines_of cover) → reply_of x ≡ check_reply s codes cover
+pub check-is : (s codes cover : List ℕ) {got : Reading} {x : Finding} → got ≡ reading s → x ≡ found_of (begun_by got (lines_of codes)) (lines_of cover) → reply_of x ≡ check_reply s codes cover
 unfolding begun
 check-is s codes cover e f = ap reply_of (f ∙ ap (λ (g : Reading). found_of (begun_by g (lines_of codes)) (lines_of cover)) e) ∙ found-is s codes cover
 
-pub reply-read : (s codes cover : List ℕ) {b : Begun} → b ≡ begun s codes → {x : Checked} → b.verdict ≡ Verdict.Accepted → x ≡ cover_checked b.listing b.codes (lines_of cover) → reply_of x ≡ check_reply s codes cover
-reply-read s codes cover {b} e p f = ap reply_of (found-cover b (lines_of cover) p f ∙ ap (λ (d : Begun). found_of d (lines_of cover)) e) ∙ found-is s codes cover
+pub reply-read : (s codes cover : List ℕ) {b : Begun} → ◌≡◌ {A = Beginning} (Ok b) (begun s codes) → {x : Finding} → x ≡ cover_checked b.listing b.codes (lines_of cover) → reply_of x ≡ check_reply s codes cover
+unfolding found_of
+reply-read s codes cover e f = ap reply_of (f ∙ ap (λ (b : Beginning). found_of b (lines_of cover)) e) ∙ found-is s codes cover
