@@ -14,7 +14,7 @@ use Rattle.rules.specs.Text.{bytes, same, split, lf, lines_of, mark_of, mark_is}
 use Rattle.rules.specs.Lines.{head_line}
 use Rattle.rules.specs.FlowTable.{flow_asks, stability}
 use Rattle.rules.specs.FlowLines.{flow_head, column_count, columns_of, FlowStep, flow_goes, flow_ends, flow_stops, flow_placed}
-use Rattle.rules.specs.Listing.{blank, with_head, with_dichotomy, with_dichotomies, accepted, nothing, conflict, checked, read_lines, read_all, flow_step, flow_gives, flow_read, flow_ended, flow_unended, flow_lines, Reading}
+use Rattle.rules.specs.Listing.{blank, with_head, with_dichotomy, with_dichotomies, nothing, conflict, checked, read_lines, read_all, flow_step, flow_gives, flow_read, flow_ended, flow_unended, flow_lines, Reading}
 use Rattle.rules.specs.declared.Head.{Head}
 use Rattle.rules.specs.declared.Listing.{Listing}
 use Rattle.rules.specs.declared.Requirement.{Requirement}
