@@ -99,6 +99,7 @@ fn read_lines(s: &[u8]) -> Result<Draft, Refused>
     let mut end = read_pieces::cut(s, 0, b'\n');
     while end < s.len() {
         let said = says::line_said(k, d.heads, d.names.count, &s[at..end]);
+        // An answer that is no step holds why the line is refused.
         let Ok(step) = said else {
             return Err(said.err().unwrap_or(Refusal::BadLine).at(k));
         };

@@ -30,17 +30,6 @@ use Rattle.read_flow.proofs.Ends.{table-read}
 use Rattle.read_listing.specs.Says.{flow_listing, reading_of}
 use Rattle.rules.specs.declared.Refused.{Refused}
 
--- ---- the head
-
-module _ (l m : List ℕ) where
-  pub head-by : {a b : Bool} → same (mark_of l) (bytes "MC") ≡ a → same (mark_of m) (bytes "FT") ≡ b → flow_head l m ≡ cond (a && b) (head_line false l) (Err Place)
-  unfolding flow_head
-  head-by e f = rw (e, f)
-
-  pub head-other : same (mark_of l) (bytes "MC") ≡ false → flow_head l m ≡ Err Place
-  unfolding flow_head
-  head-other e = rw e
-
 -- ---- what is read
 
 -- what is read is the head with the dichotomies, which has no row to clash
