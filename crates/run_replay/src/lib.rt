@@ -150,8 +150,7 @@ fn add_first(out: &mut [u8], part: Part, m: Both, run: &[u8]) -> Ran
     }
     let got = run_lines::start_line(m.listing.head, &run[0..end]);
     let Ok(s) = got else {
-        let refusal = got.err().unwrap_or(Refusal::BadLine);
-        return add_end(out, part, refusal, 1);
+        return add_end(out, part, got.err().unwrap_or(Refusal::BadLine), 1);
     };
     let start = s.0;
     let code = run_encoded::code_of(m.bits, start);

@@ -17,7 +17,7 @@ pub returns-in_default : goal.returns-in_default
 returns-in_default c =
     let a = c.args in
     let cut = cut_of _ _ 0 (omega arith) c.cut-end.ensures in
-    let e = reason-is _ c.in_default.is c.err.ensures.value c.unwrap_or-refusal.ensures in
+    let e = reason-is _ c.in_default.is c.err.ensures.value c.unwrap_or.ensures in
     c.add_end-in_default.ensures
     ∙ ap (λ (g : Course). ran_on g (a.part, a.out.now)) (sym (whole-refused a.m.listing.now a.m.terms.now a.m.bits.now a.run.now _ cut c.if-run-end.false (sym c.start_line-got.ensures ∙ e)))
 
