@@ -33,7 +33,7 @@ struct Both<'a> {
 #[derive(Clone, Copy)]
 pub enum Place {
     First,
-    Behind(u32, usize, u64),
+    Behind { done: u32, state: usize, code: u64 },
     Over,
 }
 
@@ -110,8 +110,9 @@ fn add_steps(
     ensures { (result, out.new) ≡ ran_on (ran_from m.entry.listing.now m.entry.terms.now (length m.entry.bits.now) begun start first (lines_of run.now)) (part, out.old) }
 {
     let head = m.listing.head;
+    let width = m.bits.len();
     let mut code = first;
-    let mut s = start;
+    let mut state = start;
     let mut to = part;
     let mut done = begun;
     let mut at: usize = 0;
@@ -122,13 +123,13 @@ fn add_steps(
             let refusal = got.err().unwrap_or(Refusal::BadLine);
             return add_end(out, to, refusal, done as usize + 2);
         };
-        let moved = step_both(m, x, s, code);
+        let moved = step_both(m, x, state, code);
         if moved.next == 0 {
             return add_end(out, to, Refusal::NoNext, done as usize + 2);
         }
-        s = moved.state;
+        state = moved.state;
         code = moved.code;
-        to = run_print::add_step(out, to, s, m.bits.len(), code, moved.outputs, head.outputs);
+        to = run_print::add_step(out, to, state, width, code, moved.outputs, head.outputs);
         done += 1;
         at = end + 1;
         end = cut(run, at, b'\n');
@@ -136,7 +137,7 @@ fn add_steps(
     if at < end {
         return add_end(out, to, Refusal::BadLine, done as usize + 2);
     }
-    let place = Place::Behind(done, s, code);
+    let place = Place::Behind { done, state, code };
     Ran { part: to, place }
 }
 
@@ -164,7 +165,7 @@ fn add_from(out: &mut [u8], part: Part, m: Both, place: Place, run: &[u8]) -> Ra
 {
     match place {
         Place::First => add_first(out, part, m, run),
-        Place::Behind(done, s, code) => add_steps(out, part, m, done, s, code, run),
+        Place::Behind { done, state, code } => add_steps(out, part, m, done, state, code, run),
         Place::Over => Ran {
             part,
             place: Place::Over,
