@@ -1,7 +1,8 @@
 -- Sifting on its way, as its loop meets it: j words of live families stand in front, and what a bit leaves of the families from i on is still to come.
 use Rattle.std.proofs.Common.{◌≡◌, ℕ, suc, ◌+◌, ◌-◌, ◌<◌, ◌≤◌, Bool, true, false, cond, List, [], ◌∷◌, ◌++◌, length, get_or, take, drop, set, sym, refl, ap, ◌∙◌, ap₂, append_assoc, append-nil, add-one, arith, length-set, take-append-drop, length-take, get_or-drop, drop-drop, take-suc-set, drop-set-lt}
 use Rattle.families.proofs.Walk.{family-left, short-left}
-use Rattle.bit_live.specs.Left.{left_families, sifted_families, laid, left_at, stays_at, words_behind, moved_family}
+use Rattle.families.specs.Families.{laid}
+use Rattle.bit_live.specs.Left.{left_families, sifted_families, left_at, stays_at, words_behind, moved_family}
 
 left-short : (b : ℕ) (fs : List ℕ) → length fs ≤ 2 → left_families b fs ≡ []
 unfolding left_families

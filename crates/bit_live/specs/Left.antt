@@ -1,7 +1,7 @@
 -- After a bit: which requirements of a family, and of a list of families, stay live.
-use Rattle.std.specs.Prelude.{ℕ, ◌+◌, Bool, cond, not, ◌||◌, List, [], ◌∷◌, ◌++◌, length, drop, ◌==◌, slice_index, slice_set}
+use Rattle.std.specs.Prelude.{ℕ, ◌+◌, Bool, cond, not, ◌||◌, List, [], ◌∷◌, ◌++◌, length, drop, ◌==◌, slice_index}
 use Rattle.sets.specs.Sets.{size}
-use Rattle.families.specs.Families.{without}
+use Rattle.families.specs.Families.{without, laid}
 use Rattle.move_halves.specs.Halves.{side, back, ones, zeros}
 
 -- of the states o outside, those that are not right in a half that is met; x and y must change, one way round and the other
@@ -35,10 +35,6 @@ unfolding left_families
 sifted_families b fs = left_families b fs ++ drop (length (left_families b fs)) fs
 
 -- ---- one family of the list: that from place i on, with j words of live ones in front of it
-
--- its three numbers at place j
-unfoldable pub laid : ℕ → ℕ → ℕ → ℕ → List ℕ → List ℕ
-laid j all flip out fs = slice_set (slice_set (slice_set fs j all) (j + 1) flip) (j + 2) out
 
 abbrev pub left_at : ℕ → ℕ → List ℕ → ℕ
 left_at b i fs = left_of (slice_index fs i) (slice_index fs (i + 1)) (slice_index fs (i + 2)) b

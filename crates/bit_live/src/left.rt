@@ -1,7 +1,7 @@
 // What a bit leaves live of a family.
 ghost use Rattle.std.specs.Prelude.{◌≡◌, ◌+◌, ◌-◌, ◌<◌, ◌≤◌, length};
 ghost use Rattle.sets.specs.Sets.{size};
-ghost use Rattle.bit_live.specs.Left.{left_by, stays_by, laid, words_behind, moved_family};
+ghost use Rattle.bit_live.specs.Left.{left_by, stays_by, words_behind, moved_family};
 
 // Of the states outside, those that are not right in a half that is met.
 fn left_by(x: u64, y: u64, o: u64, b: u64) -> u64
@@ -26,16 +26,6 @@ fn stays_by(x: u64, y: u64, out: u64, left: u64) -> bool
     }
 }
 
-// A family's three numbers at place j.
-fn lay(fs: &mut [u64], j: usize, all: u64, flip: u64, out: u64)
-    requires { 2 < length fs.old - j }
-    ensures { fs.new ≡ laid j all flip out fs.old }
-{
-    fs[j] = all;
-    fs[j + 1] = flip;
-    fs[j + 2] = out;
-}
-
 // The family from place i on, with j words of live ones in front of it: what is left of it moves to place j; the answer is how many words stand there then.
 pub fn sift_family(fs: &mut [u64], i: usize, j: usize, b: u64) -> usize
     requires { (2 < length fs.old - i) × (j ≤ i) }
@@ -48,7 +38,7 @@ pub fn sift_family(fs: &mut [u64], i: usize, j: usize, b: u64) -> usize
     let y = all ^ x;
     let left = left_by(x, y, families::without_of(out, all), b);
     if stays_by(x, y, out, left) {
-        lay(fs, j, all, flip, left);
+        families::put(fs, j, all, flip, left);
         return j + 3;
     }
     j

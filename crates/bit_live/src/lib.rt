@@ -132,6 +132,7 @@ pub fn sift_families(fs: &mut [u64], b: u64) -> usize
     ensures { (result ≡ length (left_families b fs.old)) × (fs.new ≡ sifted_families b fs.old) }
 {
     let mut j: usize = 0;
+    // By place, since the families move within the slice that they are read from.
     for k in 0..fs.len() / 3 {
         j = left::sift_family(fs, 3 * k, j, b);
     }

@@ -8,7 +8,8 @@ ghost use Rattle.bit_passes.specs.Runs.{built_of, Ran};
 
 use bit_choice::{Built, Passed, Way, best_of, choose, reach};
 
-// Passes on their way: the bit so far, the passes begun for it, their looks, and whether the last of them gained nothing.
+// Passes on their way: the bit so far, the passes begun for it, their looks, and whether the last of them gained nothing. That is a field, since a run
+// keeps its counts either way.
 #[derive(Clone, Copy)]
 pub struct Run {
     pub bit: u64,

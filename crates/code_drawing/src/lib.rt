@@ -26,9 +26,7 @@ fn put_family(fs: &mut [u64], at: usize, all: u64, flip: u64, out: u64) -> usize
     requires { at + 3 ≤ length fs.old }
     ensures { (result ≡ at + 3) × Drew fs.old (take at fs.old ++ family all flip out) result fs.new }
 {
-    fs[at] = all;
-    fs[at + 1] = flip;
-    fs[at + 2] = out;
+    families::put(fs, at, all, flip, out);
     at + 3
 }
 

@@ -2,7 +2,7 @@
 #![tactic(auto)]
 
 ghost use Rattle.std.specs.Prelude.{◌≡◌, ◌&&◌, not};
-ghost use Rattle.rules.specs.Requirements.{asks, wholly, met, judgement, met_by_code};
+ghost use Rattle.rules.specs.Requirements.{wholly, met, judgement, met_by_code};
 ghost use Rattle.families.specs.Families.{requirements_in};
 ghost use Rattle.code_judging.specs.Judging.{judgement_at, judged, some_unmet, any_unmet};
 
@@ -16,11 +16,11 @@ fn parts(b: u64, z: u64, o: u64) -> bool
     b & z == 0 && b & o == o
 }
 
-// Whether it meets the requirement with these blocks: it has one value on the whole first and the other on the whole second.
-pub fn meets(b: u64, first: u64, second: u64) -> bool
-    ensures { result ≡ met 64 (asks first second) b }
+// Whether it meets the requirement: it has one value on the whole first block and the other on the whole second.
+pub fn meets(b: u64, r: Requirement) -> bool
+    ensures { result ≡ met 64 r b }
 {
-    parts(b, first, second) || parts(b, second, first)
+    parts(b, r.first, r.second) || parts(b, r.second, r.first)
 }
 
 // The lowest bit of the code that meets it, or that none does.
@@ -28,7 +28,7 @@ pub fn judge(bits: &[u64], r: Requirement) -> Option<BitNumber>
     ensures { result ≡ judgement 64 bits.now r }
 {
     for (k, b) in bits.iter().enumerate() {
-        if meets(*b, r.first, r.second) {
+        if meets(*b, r) {
             return Some(BitNumber(k));
         }
     }

@@ -35,7 +35,7 @@ fn mask_of(b: u64, fs: &[u64]) -> u64
 {
     let mut m: u64 = 0;
     for r in Requirements::new(fs) {
-        m = with_digit(m, code_judging::meets(b, r.first, r.second));
+        m = with_digit(m, code_judging::meets(b, r));
     }
     m
 }

@@ -1,6 +1,6 @@
 -- A family: requirements that have all their members but one in common. Its numbers: the members that they have in common, those of them that stand in
 -- the second block, and the states outside, each of which makes a requirement of its own; where there is none outside, the family is one requirement.
-use Rattle.std.specs.Prelude.{cond, List, [], ◌∷◌, ◌++◌, map, ℕ, zero, suc, eqb}
+use Rattle.std.specs.Prelude.{cond, List, [], ◌∷◌, ◌++◌, map, ℕ, zero, suc, ◌+◌, eqb, slice_set}
 use Rattle.std.specs.Int.Bits.{bit_and, bit_or, bit_xor}
 use Rattle.sets.specs.Sets.{has, only, states_from}
 use Rattle.rules.specs.Requirements.{asks}
@@ -34,3 +34,7 @@ requirements_in [] = []
 requirements_in (all ∷ []) = []
 requirements_in (all ∷ (flip ∷ [])) = []
 requirements_in (all ∷ (flip ∷ (out ∷ fs))) = requirements_of all flip out ++ requirements_in fs
+
+-- a family's three numbers put into a list, from place i on
+unfoldable pub laid : ℕ → ℕ → ℕ → ℕ → List ℕ → List ℕ
+laid i all flip out fs = slice_set (slice_set (slice_set fs i all) (i + 1) flip) (i + 2) out

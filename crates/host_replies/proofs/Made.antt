@@ -1,9 +1,9 @@
 -- What the steps give one after the other is what the bytes are ready for.
-use mathlib.Core.Path.{◌≡◌, sym, ap, ◌∙◌}
+use mathlib.Core.Path.{◌≡◌, ap, ◌∙◌}
 use mathlib.Core.List.{List}
 use Prim.Native.Nat.{ℕ}
 use Rattle.rules.specs.Widths.{with_width}
-use Rattle.rules.specs.Listing.{judged, Reading}
+use Rattle.rules.specs.Listing.{Reading}
 use Rattle.rules.specs.declared.Listing.{Listing}
 use Rattle.rules.specs.declared.Encoding.{Encoding}
 use Rattle.write_texts.specs.Texts.{verdict_of}
@@ -22,11 +22,11 @@ module _ (w : Wanted) (s : List ℕ) {p : Plan} (h : p ≡ plan_of w) where
   by-plan {r} e = ap (ready_of p) e ∙ ap (λ (q : Plan). ready_of q (reading_as q.form s)) h
 
   -- the reader refuses
-  pub not-read : {why : Refused} {t : Listing} → judged (Err why) t ≡ reading_as p.form s → Err why ≡ ready w s
+  pub not-read : {why : Refused} → Err why ≡ reading_as p.form s → Err why ≡ ready w s
   unfolding ready_of
   not-read e = by-plan e
 
-  module _ {r : Listing} (read : judged (Ok tt) r ≡ reading_as p.form s) {k : ℕ} (width : k ≡ width_for p.text r.head.width) where
+  module _ {r : Listing} (read : Ok r ≡ reading_as p.form s) {k : ℕ} (width : k ≡ width_for p.text r.head.width) where
     abbrev t : Listing
     t = with_width k r
 

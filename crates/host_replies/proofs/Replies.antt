@@ -1,7 +1,7 @@
 -- What any bytes are ready for is the reply of 01 and 02 to them, and its text is small.
 use mathlib.Core.Path.{◌≡◌, refl, sym, ap, subst, ◌∙◌}
 use mathlib.Core.Bool.{Bool, true, false, ◌&&◌, cond}
-use mathlib.Core.List.{List, []}
+use mathlib.Core.List.{List}
 use Prim.Native.Nat.{ℕ, ◌≤◌, ◌<◌}
 use native.Mathlib.Omega.{arith}
 use lib.Dec.{leb}
@@ -15,12 +15,10 @@ use Rattle.rules.specs.Report.{joined_lines}
 use Rattle.rules.specs.Answers.{Reply, says, refuses, on_reading, report_of, cover_of, report_reply, cover_reply}
 use Rattle.rules.specs.Widths.{with_width, widths, widths_reply}
 use Rattle.rules.specs.Least.{least_coding, begins_large, small_reading, least_reply, least_cover_reply}
-use Rattle.rules.specs.Kiss.{kiss_reading}
 use Rattle.rules.specs.KissAnswers.{kiss_report_reply, kiss_cover_reply, kiss_listing_reply}
 use Rattle.rules.specs.ListingText.{listing_text}
 use Rattle.rules.specs.declared.Listing.{Listing}
 use Rattle.rules.specs.declared.Encoding.{Encoding}
-use Rattle.rules.specs.declared.Refusal.{Refusal}
 use Rattle.rules.specs.declared.Refusal.TheVariants.{Limit, Unmet}
 use Rattle.rules.proofs.Sound.{Sound, accepted-sound}
 use Rattle.rules.proofs.LineNumbers.{refused-line}
@@ -70,6 +68,10 @@ RightIn x t a reply = Right reply (ready_with x t a)
 abbrev Held : Listing → Coding → Type 0
 Held t a = (c : Code) → a ≡ coded c → Whole t c (encoding_of t c)
 
+-- a cover that is withheld, or not
+abbrev withheld-if : Listing → Encoding → Bool → Result Ready Refused
+withheld-if t e b = elim (cond {A = Verdict} b (refused Unmet 0) (Ok tt)) [ Ok _ ↦ Ok (record { text = Text.Cover; listing = t; encoding = e }) | Err why ↦ Err why ]
+
 module _ (t : Listing) where
   report-right : (a : Coding) → Held t a → RightIn Text.Report t (encoded_as t a) (report_of t a)
   unfolding encoded_as verdict_of ready_with ready_in reply_of lines_of report_reply
@@ -89,10 +91,7 @@ module _ (t : Listing) where
       w : Whole t c e
       w = q c refl
 
-      abbrev withheld-if : Bool → Result Ready Refused
-      withheld-if b = elim (cond {A = Verdict} b (refused Unmet 0) (Ok tt)) [ Ok _ ↦ Ok (record { text = Text.Cover; listing = t; encoding = e }) | Err why ↦ Err why ]
-
-      go : (b : Bool) → any_unmet (first_families t) e ≡ b → Right (cover_of t (coded c)) (withheld-if b)
+      go : (b : Bool) → any_unmet (first_families t) e ≡ b → Right (cover_of t (coded c)) (withheld-if t e b)
       go true h = record { same = cover-said t c e w true h; small = omega arith; fits = fit_none }
       go false h = record { same = cover-said t c e w false h; small = cover-few t c e w; fits = cover-fits t c e w }
   cover-right (uncoded r) q = record { same = refl; small = omega arith; fits = fit_none }

@@ -141,7 +141,13 @@ fn say_whole(coded: Coded, t: &Listing, out: &mut [u8]) -> Result<usize, Refused
     if is_longer(coded.text, read, coded.encoding, out.len()) {
         return Err(Refusal::NoRoom.at(0));
     }
-    let written = write_texts::add_lines(coded.text, read, coded.encoding, write_parts::begin(0), out);
+    let written = write_texts::add_lines(
+        coded.text,
+        read,
+        coded.encoding,
+        write_parts::begin(0),
+        out,
+    );
     Ok(written.given)
 }
 
@@ -151,7 +157,13 @@ fn say_piece(coded: Coded, t: &Listing, from: usize, out: &mut [u8]) -> Result<u
     ensures { (result, out.new) ≡ saying_part (says (joined_lines (text_lines coded.text t.now coded.encoding))) from out.old }
 {
     let read = *t;
-    let written = write_texts::add_lines(coded.text, read, coded.encoding, write_parts::begin(from), out);
+    let written = write_texts::add_lines(
+        coded.text,
+        read,
+        coded.encoding,
+        write_parts::begin(from),
+        out,
+    );
     if written.given == 0 && written.full {
         return Err(Refusal::NoRoom.at(0));
     }
@@ -168,7 +180,11 @@ pub fn say(wanted: Wanted, bytes: &[u8], out: &mut [u8]) -> Result<usize, Refuse
 }
 
 // The whole lines of what is ready that fit, from byte `from` on; none where there is no more, and 10 where the next does not fit.
-pub fn say_from(ready: Result<Ready, Refused>, from: usize, out: &mut [u8]) -> Result<usize, Refused>
+pub fn say_from(
+    ready: Result<Ready, Refused>,
+    from: usize,
+    out: &mut [u8],
+) -> Result<usize, Refused>
     ensures { (result, out.new) ≡ saying_part (reply_of ready) from out.old }
 {
     let r = ready?;

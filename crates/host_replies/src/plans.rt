@@ -42,7 +42,7 @@ pub struct Plan {
 }
 
 // A plan by its three parts.
-fn plan(form: Form, way: Way, text: Text) -> Plan
+fn planned(form: Form, way: Way, text: Text) -> Plan
     ensures { result ≡ record { form = form; way = way; text = text } }
 {
     Plan { form, way, text }
@@ -53,14 +53,14 @@ pub fn plan_of(wanted: Wanted) -> Plan
     ensures { result ≡ plan_of wanted }
 {
     match wanted {
-        Wanted::Report => plan(Form::Listing, Way::Built, Text::Report),
-        Wanted::Cover => plan(Form::Listing, Way::Built, Text::Cover),
-        Wanted::Widths => plan(Form::Listing, Way::Built, Text::Widths),
-        Wanted::Least => plan(Form::Small, Way::Least, Text::Report),
-        Wanted::LeastCover => plan(Form::Small, Way::Least, Text::Cover),
-        Wanted::KissReport => plan(Form::Kiss, Way::Built, Text::Report),
-        Wanted::KissCover => plan(Form::Kiss, Way::Built, Text::Cover),
-        Wanted::KissListing => plan(Form::Kiss, Way::Uncoded, Text::Listing),
+        Wanted::Report => planned(Form::Listing, Way::Built, Text::Report),
+        Wanted::Cover => planned(Form::Listing, Way::Built, Text::Cover),
+        Wanted::Widths => planned(Form::Listing, Way::Built, Text::Widths),
+        Wanted::Least => planned(Form::Small, Way::Least, Text::Report),
+        Wanted::LeastCover => planned(Form::Small, Way::Least, Text::Cover),
+        Wanted::KissReport => planned(Form::Kiss, Way::Built, Text::Report),
+        Wanted::KissCover => planned(Form::Kiss, Way::Built, Text::Cover),
+        Wanted::KissListing => planned(Form::Kiss, Way::Uncoded, Text::Listing),
     }
 }
 
@@ -68,14 +68,22 @@ pub fn plan_of(wanted: Wanted) -> Plan
 pub fn is_kiss(form: Form) -> bool
     ensures { result ≡ is_kiss form }
 {
-    matches!(form, Form::Kiss)
+    match form {
+        Form::Kiss => true,
+        Form::Listing => false,
+        Form::Small => false,
+    }
 }
 
 // Whether a form is that of a small machine.
 pub fn is_small(form: Form) -> bool
     ensures { result ≡ is_small form }
 {
-    matches!(form, Form::Small)
+    match form {
+        Form::Small => true,
+        Form::Listing => false,
+        Form::Kiss => false,
+    }
 }
 
 // The width that a listing is coded with: what each width buys is seen in the widest code, whatever the listing's own.

@@ -24,7 +24,7 @@ use Rattle.rules.specs.declared.Row.{Row}
 use Rattle.rules.specs.declared.CoverHeads.{CoverHeads}
 use Rattle.rules.proofs.Ways.{not-accepted}
 use Rattle.judge_search.specs.Rows.{any_from, row_fires}
-use Rattle.judge_search.proofs.Firing.{row-fires, row-silent}
+use Rattle.judge_search.proofs.RowFires.{row-fires, row-silent}
 use Rattle.judge_search.proofs.Gathered.{any_none}
 use Rattle.judge_rows.specs.Rows.{laid, firing_list, saying_list, line_firing, line_saying, line_laid}
 use Rattle.judge_rows.proofs.Tables.{Wide, laid-length, laid-before, laid-behind, laid-row}

@@ -25,7 +25,7 @@ use Rattle.rules.proofs.Fires.{takes-append}
 use Rattle.rules.proofs.Most.{states-length}
 use Rattle.run_inputs.proofs.Masks.{every-least}
 use Rattle.judge_search.specs.Rows.{row_fires}
-use Rattle.judge_search.proofs.Firing.{row-fires}
+use Rattle.judge_search.proofs.RowFires.{row-fires}
 use Rattle.judge_rows.specs.Rows.{marks_of, takes_digit, saying_list, line_firing, line_saying}
 use Rattle.judge_check.proofs.Made.{is_one, set_past, set_says, taking-at, all_take, all_drop, field-takes, marks-fit}
 

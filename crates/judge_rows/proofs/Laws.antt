@@ -23,7 +23,7 @@ use Rattle.rules.specs.declared.Row.{Row}
 use Rattle.sharing.proofs.Inputs.{none-low}
 use Rattle.judge_search.specs.declared.Said.{Said}
 use Rattle.judge_rows.specs.Rows.{laid_at, laid, firing_list, saying_list, code_at, row_firing, row_saying, listing_laid, marks_of, takes_digit, states_taking, line_firing, line_saying, line_laid}
-use Rattle.judge_rows.specs.declared.Firing.{Firing}
+use Rattle.judge_search.specs.declared.Firing.{Firing}
 use Rattle.judge_rows.specs.declared.Marks.{Marks}
 
 -- ---- a row in a table

@@ -18,7 +18,7 @@ use Rattle.rules.specs.declared.Listing.{Listing}
 use Rattle.judge_search.specs.Rows.{any_from, row_fires}
 use Rattle.judge_search.proofs.Gathered.{any-parts, any_some, any_none}
 use Rattle.judge_search.proofs.Judged.{meant, listed}
-use Rattle.judge_search.proofs.Firing.{row-fires, row-silent}
+use Rattle.judge_search.proofs.RowFires.{row-fires, row-silent}
 use Rattle.judge_rows.specs.Rows.{saying_list, row_saying}
 
 -- the rows stand in the tables, and behind them, up to the cover's, rows that fire in no state

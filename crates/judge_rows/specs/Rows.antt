@@ -7,7 +7,7 @@ use Rattle.rules.specs.Text.{digit, nought, one, dash, split, field_at, all_of, 
 use Rattle.rules.specs.declared.Row.{Row}
 use Rattle.judge_search.specs.declared.Said.{Said}
 use Rattle.judge_search.specs.Rows.{all_row_places}
-use Rattle.judge_rows.specs.declared.Firing.{Firing}
+use Rattle.judge_search.specs.declared.Firing.{Firing}
 use Rattle.judge_rows.specs.declared.Marks.{Marks}
 
 -- ---- a table

@@ -7,17 +7,9 @@ ghost use Rattle.rules.specs.Listing.{all_rows};
 ghost use Rattle.judge_search.specs.Rows.{all_row_places};
 ghost use Rattle.judge_rows.specs.Rows.{laid, firing_list, saying_list, code_at, row_firing, row_saying, listing_laid, marks_of, takes_digit, states_taking, line_firing, line_saying, line_laid};
 
-use judge_search::{ALL_ROWS, FIRES_WORDS, SAYS_WORDS, Said};
+use judge_search::{ALL_ROWS, FIRES_WORDS, Firing, SAYS_WORDS, Said};
 use read_pieces::{field, first_of};
 use rules::{CodeTable, Listing, Row};
-
-// Where a row fires: the inputs that are 1 and those that are dashes, and the states.
-#[derive(Clone, Copy)]
-pub struct Firing {
-    pub ones: u64,
-    pub dashes: u64,
-    pub states: u64,
-}
 
 // Characters `0 1 -`, at most 64 of them: those that are 1, and the dashes.
 #[derive(Clone, Copy)]

@@ -1,9 +1,9 @@
 -- Rows that are backed, and rows that clash, as iterators and tests have them.
 use Rattle.std.specs.List.{list_any, range_with_len}
-use mathlib.Core.Path.{◌≡◌, refl, sym, ap, ◌∙◌}
+use mathlib.Core.Path.{◌≡◌, refl, sym, ap, ap₂, ◌∙◌}
 use mathlib.Core.Bool.{Bool, true, false, ◌&&◌, ◌||◌, not}
 use mathlib.Core.List.{List}
-use Prim.Native.Nat.{ℕ, zero, suc, ◌-◌, ◌^◌, ◌≤◌, ◌<◌, min}
+use Prim.Native.Nat.{ℕ, zero, suc, ◌+◌, ◌*◌, ◌-◌, ◌^◌, ◌≤◌, ◌<◌, min}
 use native.Mathlib.Numerals.{add-one}
 use native.Mathlib.Omega.{arith}
 use lib.Bits.{bit_and, bit_or, bit_xor}
@@ -12,8 +12,11 @@ use Rattle.sets.specs.Sets.{everyone}
 use Rattle.sets.proofs.Every.{every-same}
 use Rattle.sharing.proofs.Inputs.{none-low, unlike}
 use Rattle.rules.specs.Limits.{most_inputs}
-use Rattle.judge_search.specs.Rows.{any_from}
-use Rattle.judge_search.specs.Backing.{of_listing, of_cover, no_sayings, any_unbacked, share_inputs, any_clash, row_by_row}
+use lib.ListN.{get_or}
+use Rattle.judge_search.specs.declared.Firing.{Firing}
+use Rattle.judge_search.specs.declared.backing.Sayings.{Sayings}
+use Rattle.judge_search.specs.Rows.{any_from, firing_at}
+use Rattle.judge_search.specs.Backing.{within, of_listing, of_cover, no_sayings, backed_by, backed, unbacked, any_unbacked, share_inputs, clash, any_clash, row_by_row}
 
 -- ---- tests, one behind the other
 
@@ -22,6 +25,24 @@ and-fails b e = rw e
 
 pub and-holds : {r a b : Bool} → a ≡ true → r ≡ b → r ≡ (a && b)
 and-holds e f = rw e f
+
+-- ---- two rows, by where they fire
+
+module _ (fires says : List ℕ) (x y : ℕ) {a b : Firing} (is-a : a ≡ firing_at fires x) (is-b : b ≡ firing_at fires y) where
+  pub backed-by : (f g : ℕ) → (eqb a.ones b.ones && (eqb a.dashes b.dashes && (within a.states b.states && within (get_or says (x * 4 + f) 0) (get_or says (y * 4 + g) 0)))) ≡ backed_by fires says f g x y
+  unfolding backed_by
+  backed-by f g =
+      ap₂ (λ (p q : Firing). eqb p.ones q.ones && (eqb p.dashes q.dashes && (within p.states q.states && within (get_or says (x * 4 + f) 0) (get_or says (y * 4 + g) 0)))) is-a is-b
+
+  pub clash-by : (i : ℕ) → (not (eqb (bit_and (get_or says (x * 4 + 3) 0) (get_or says (y * 4 + 2) 0)) 0) && (not (eqb (bit_and a.states b.states) 0) && share_inputs i a.ones b.ones a.dashes b.dashes)) ≡ clash fires says i x y
+  unfolding clash
+  clash-by i =
+      ap₂ (λ (p q : Firing). not (eqb (bit_and (get_or says (x * 4 + 3) 0) (get_or says (y * 4 + 2) 0)) 0) && (not (eqb (bit_and p.states q.states) 0) && share_inputs i p.ones q.ones p.dashes q.dashes)) is-a is-b
+
+pub unbacked-by : (fires says : List ℕ) (f : ℕ) (by : Sayings) (x : ℕ) {a : Firing} → a ≡ firing_at fires x
+    → (not (eqb a.states 0) && (not (eqb (get_or says (x * 4 + f) 0) 0) && not (backed fires says f by x))) ≡ unbacked fires says f by x
+unfolding unbacked
+unbacked-by fires says f by x e = ap (λ (p : Firing). not (eqb p.states 0) && (not (eqb (get_or says (x * 4 + f) 0) 0) && not (backed fires says f by x))) e
 
 -- ---- the rows of some, from the first on
 

@@ -1,7 +1,7 @@
 -- The words of rows that have a property, row by row from the last as loops have them.
 use mathlib.Core.Path.{◌≡◌, refl, sym, ap, ◌∙◌}
 use mathlib.Core.Bool.{Bool, true, false}
-use mathlib.Core.List.{List, [], ◌∷◌, map}
+use mathlib.Core.List.{List, map}
 use Prim.Native.Nat.{ℕ, zero, suc, ◌+◌, ◌*◌, ◌-◌, ◌/◌, ◌%◌, ◌^◌, ◌≤◌, ◌<◌}
 use native.Mathlib.Nat.{pow-suc, zero-add}
 use native.Mathlib.Decide.{ℕ_discrete}
@@ -9,7 +9,6 @@ use native.Mathlib.Omega.{arith}
 use lib.Dec.{eqb}
 use lib.ListN.{length, get_or, set, length-map}
 use lib.Seq.{ext_get_or, get_or-set_same, get_or-set_other}
-use lib.Pow.{pow_mono}
 use borrow.Author.Tests.{eqb-true, eqb-false}
 use Rattle.sets.specs.Sets.{has, states_from}
 use Rattle.sets.proofs.Members.{has-lt}
@@ -55,12 +54,6 @@ word_lt p a zero = omega arith
 word_lt p a (suc k) = omega (arith, word_lt p (suc a) k, digit-le (p a), pow-suc 2 k)
 
 module _ (p : ℕ → Bool) (a k : ℕ) (some : 0 < k) (few : k ≤ 64) where
-  pub word_room : {w : ℕ} → w ≡ word_from p (a + k) (64 - k) → w * 2 + 1 < 2 ^ 64
-  word_room e =
-      let le : suc (64 - k) ≤ 64 = omega arith in
-      let h : 2 ^ suc (64 - k) ≤ 2 ^ 64 = pow_mono le in
-      omega (arith, e, word_lt p (a + k) (64 - k), pow-suc 2 (64 - k), h)
-
   pub word_back : {w d : ℕ} → w ≡ word_from p (a + k) (64 - k) → d ≡ digit (p (a + (k - 1))) → w * 2 + d ≡ word_from p (a + (k - 1)) (64 - (k - 1))
   unfolding word_from
   word_back e f =
@@ -91,8 +84,3 @@ filled_more f w l {v} h e before k b = at (ℕ_discrete k w)
     at : Dec (k ≡ w) → get_or (set l w v) k 0 ≡ f k
     at (yes q) = rw q (get_or-set_same l w v 0 h ∙ e)
     at (no o) = get_or-set_other l w k v 0 o ∙ before k (omega arith)
-
--- seven words
-pub seven : (f : ℕ → ℕ) {a b c d e g h : ℕ} → a ≡ f 0 → b ≡ f 1 → c ≡ f 2 → d ≡ f 3 → e ≡ f 4 → g ≡ f 5 → h ≡ f 6 → a ∷ (b ∷ (c ∷ (d ∷ (e ∷ (g ∷ (h ∷ [])))))) ≡ map f (states_from 0 7)
-unfolding states_from
-seven f p q r s t u v = cc

@@ -6,7 +6,7 @@ pub mod States
 pub mod Sure
 pub mod Gathered
 pub mod Judged
-pub mod Firing
+pub mod RowFires
 pub mod Backed
 pub mod RowByRow
 pub mod FromFn

@@ -23,7 +23,7 @@ use Rattle.judge_search.specs.Backing.{within, backed_by, of_listing, of_cover, 
 use Rattle.judge_search.specs.declared.backing.Sayings.{Sayings}
 use Rattle.judge_search.proofs.Gathered.{any_none}
 use Rattle.judge_search.proofs.Judged.{agrees_by, meant, listed, covered, fails-is}
-use Rattle.judge_search.proofs.Firing.{lets-each}
+use Rattle.judge_search.proofs.RowFires.{lets-each}
 
 -- ---- truth values
 

@@ -13,12 +13,12 @@ use lib.Dec.{eqb}
 use lib.ListN.{length, get_or}
 use lib.Pointwise.{pointwise}
 use borrow.Author.Tests.{ne_eqb}
-use Rattle.sets.specs.Sets.{has, flip, every, states_from, without_lowest}
+use Rattle.sets.specs.Sets.{has, flip, every, without_lowest}
 use Rattle.sets.proofs.Every.{every-same}
 use Rattle.sets.proofs.Members.{has-lt, has-and, has-or, has-xor, has-not, has-zero, has-flip, has-flip-other, half_lt, not-lt}
 use Rattle.sets.proofs.LowestMember.{without_at}
 use Rattle.sharing.proofs.Inputs.{none-low}
-use Rattle.judge_search.specs.Search.{differ, differs, said_with, gathered_word, gathered_words, kept_words, sure_words, turned_words, same_words}
+use Rattle.judge_search.specs.Search.{differ, differs, said_with, gathered_word, gathered_words, kept_words, sure_words, same_words}
 use Rattle.judge_search.specs.declared.Said.{Said}
 
 -- ---- places that are not as meant
@@ -164,22 +164,6 @@ every-place (suc n) (x ∷ a) (y ∷ b) h k = ap (λ (t : Bool). eqb x y && t) (
 pub same-is : (a b : List ℕ) → length a ≡ 7 → length b ≡ 7 → pointwise eqb a b ≡ same_words a b
 unfolding same_words
 same-is = every-place 7
-
--- of a set, the rows that are in words too
-module _ (rows words : List ℕ) (at : ℕ) where
-  abbrev kept_at : ℕ → ℕ → ℕ
-  kept_at q a = bit_and (get_or rows q 0) (get_or words a 0)
-
-  pub kept-is : kept_at 0 at ∷ (kept_at 1 (at + 1) ∷ (kept_at 2 (at + 2) ∷ (kept_at 3 (at + 3) ∷ (kept_at 4 (at + 4) ∷ (kept_at 5 (at + 5) ∷ (kept_at 6 (at + 6) ∷ [])))))) ≡ kept_words rows words at
-  unfolding kept_words states_from
-  kept-is =
-      let e : at ≡ at + 0 = omega arith in
-      ap (λ (a : ℕ). kept_at 0 a ∷ (kept_at 1 (at + 1) ∷ (kept_at 2 (at + 2) ∷ (kept_at 3 (at + 3) ∷ (kept_at 4 (at + 4) ∷ (kept_at 5 (at + 5) ∷ (kept_at 6 (at + 6) ∷ []))))))) e
-
--- a set with the rows of another turned over
-pub turned-is : (rows others : List ℕ) → bit_xor (get_or rows 0 0) (get_or others 0 0) ∷ (bit_xor (get_or rows 1 0) (get_or others 1 0) ∷ (bit_xor (get_or rows 2 0) (get_or others 2 0) ∷ (bit_xor (get_or rows 3 0) (get_or others 3 0) ∷ (bit_xor (get_or rows 4 0) (get_or others 4 0) ∷ (bit_xor (get_or rows 5 0) (get_or others 5 0) ∷ (bit_xor (get_or rows 6 0) (get_or others 6 0) ∷ [])))))) ≡ turned_words rows others
-unfolding turned_words states_from
-turned-is rows others = refl
 
 -- of a set, the rows that let both digits stand, with an input more
 module _ (cols : List ℕ) where

@@ -2,6 +2,7 @@
 use Rattle.std.specs.Prelude.{Bool, true, false, ◌&&◌, ◌||◌, List, map, ℕ, zero, suc, ◌+◌, ◌*◌, ◌/◌, ◌%◌, eqb, get_or}
 use Rattle.sets.specs.Sets.{has, states_from}
 use Rattle.rules.specs.Text.{digit}
+use Rattle.judge_search.specs.declared.Firing.{Firing}
 
 -- the rows that there can be: of a listing, and with those of a cover behind them
 abbrev pub listing_rows : ℕ
@@ -19,6 +20,10 @@ says_words = 1792
 
 abbrev pub column_words : ℕ
 column_words = 224
+
+-- where a row fires
+abbrev pub firing_at : List ℕ → ℕ → Firing
+firing_at fires r = record { ones = get_or fires (r * 3) 0; dashes = get_or fires (r * 3 + 1) 0; states = get_or fires (r * 3 + 2) 0 }
 
 -- a row lets the digit d stand at the input j
 unfoldable pub lets : List ℕ → ℕ → ℕ → ℕ → Bool
@@ -50,10 +55,6 @@ word_from p a (suc k) = word_from p (suc a) k * 2 + digit (p a)
 unfoldable pub words_of : (ℕ → Bool) → List ℕ
 unfolding word_from states_from
 words_of p = map (λ q. word_from p (q * 64) 64) (states_from 0 7)
-
-unfoldable pub lets_digit : List ℕ → ℕ → ℕ → ℕ → ℕ
-unfolding lets
-lets_digit fires j d r = digit (lets fires j d r)
 
 -- word w of the columns: for each input fourteen
 unfoldable pub column_word : List ℕ → ℕ → ℕ

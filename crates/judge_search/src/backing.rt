@@ -5,9 +5,10 @@ ghost use Rattle.rules.specs.Limits.{most_inputs};
 ghost use Rattle.judge_search.specs.Rows.{all_row_places};
 ghost use Rattle.judge_search.specs.Backing.{within, of_listing, of_cover, backed_by, backed, unbacked, any_unbacked, share_inputs, clash, clashes, any_clash, row_by_row, no_sayings};
 
-use super::{ALL_ROWS, FIRES_WORDS, LISTING_ROWS, SAYS_WORDS};
+use super::{ALL_ROWS, FIRES_WORDS, Firing, LISTING_ROWS, SAYS_WORDS, firing_at};
 
-// One of the four numbers of what each of some rows says.
+// One of the four numbers of what each of some rows says. It is told by its place, 0 to 3, since a table is read there: a name for each would have to be turned
+// into its place again.
 #[derive(Clone, Copy)]
 pub struct Sayings {
     pub number: usize,
@@ -55,13 +56,15 @@ fn is_backed_by(
     requires { (f < 4) × (g < 4) × (x < all_row_places) × (y < all_row_places) }
     ensures { result ≡ backed_by fires.now says.now f g x y }
 {
-    if fires[x * 3] != fires[y * 3] {
+    let one = firing_at(fires, x);
+    let other = firing_at(fires, y);
+    if one.ones != other.ones {
         return false;
     }
-    if fires[x * 3 + 1] != fires[y * 3 + 1] {
+    if one.dashes != other.dashes {
         return false;
     }
-    if !is_within(fires[x * 3 + 2], fires[y * 3 + 2]) {
+    if !is_within(one.states, other.states) {
         return false;
     }
     is_within(says[x * 4 + f], says[y * 4 + g])
@@ -92,7 +95,7 @@ fn is_unbacked(
     requires { (f < 4) × (by.number < 4) × (by.to ≤ all_row_places) × (x < all_row_places) }
     ensures { result ≡ unbacked fires.now says.now f by x }
 {
-    if fires[x * 3 + 2] == 0 {
+    if firing_at(fires, x).states == 0 {
         return false;
     }
     if says[x * 4 + f] == 0 {
@@ -142,14 +145,13 @@ fn has_next_dash(fires: &[u64; FIRES_WORDS], says: &[u64; SAYS_WORDS]) -> bool
     has_unbacked(fires, says, of_cover(1), none)
 }
 
-// Whether two rows let some input stand both, of so many inputs: a and b are those that are 1 in the one and in the other, c and d those that
-// are dashes.
-fn share_inputs(inputs: usize, a: u64, b: u64, c: u64, d: u64) -> bool
+// Whether two rows let some input stand both, of so many inputs.
+fn share_inputs(inputs: usize, one: Firing, other: Firing) -> bool
     requires { inputs ≤ most_inputs }
-    ensures { result ≡ share_inputs inputs a b c d }
+    ensures { result ≡ share_inputs inputs one.ones other.ones one.dashes other.dashes }
 {
-    let unlike = a ^ b;
-    let free = c | d;
+    let unlike = one.ones ^ other.ones;
+    let free = one.dashes | other.dashes;
     unlike & !free & sets::everyone_of(inputs) == 0
 }
 
@@ -167,16 +169,12 @@ fn is_clash(
     if says[x * 4 + 3] & says[y * 4 + 2] == 0 {
         return false;
     }
-    if fires[x * 3 + 2] & fires[y * 3 + 2] == 0 {
+    let one = firing_at(fires, x);
+    let other = firing_at(fires, y);
+    if one.states & other.states == 0 {
         return false;
     }
-    share_inputs(
-        inputs,
-        fires[x * 3],
-        fires[y * 3],
-        fires[x * 3 + 1],
-        fires[y * 3 + 1],
-    )
+    share_inputs(inputs, one, other)
 }
 
 // Whether a row of the listing is such a row y.

@@ -8,7 +8,7 @@ ghost use Rattle.std.specs.Prelude.{◌≡◌, ◌+◌, ◌*◌, ◌-◌, ◌^�
 ghost use Rattle.rules.specs.Limits.{most_inputs};
 ghost use Rattle.sets.specs.Sets.{has};
 ghost use Rattle.rules.specs.Check.{lowest_from, fault_from};
-ghost use Rattle.judge_search.specs.Rows.{all_row_places, says_words, lets, stands, word_from, column_word, columns, present_word, present};
+ghost use Rattle.judge_search.specs.Rows.{all_row_places, says_words, firing_at, lets, stands, word_from, column_word, columns, present_word, present};
 ghost use Rattle.judge_search.specs.Search.{differ, differs, fails_at, said_with, gathered_word, gathered_words, fails_over, kept_words, sure_words, turned_words, same_words, searched};
 
 use rules::{Fault, StateNumber};
@@ -32,6 +32,9 @@ pub const FIRES_WORDS: usize = 1344;
 
 pub const COLUMN_WORDS: usize = 224;
 
+// The words of the columns of one input: the rows that let a 0 stand there, and behind them those that let a 1.
+const INPUT_WORDS: usize = 14;
+
 // What a row says, or some rows together.
 // - Of a listing: the states named next, the code of the state named, the outputs that are 1, and those that are dashes.
 // - Of a cover: the bits of the next code that are 1, and those that are dashes, and the same of the outputs.
@@ -41,6 +44,14 @@ pub struct Said {
     pub b: u64,
     pub c: u64,
     pub d: u64,
+}
+
+// Where a row fires: the inputs that are 1 and those that are dashes, and the states.
+#[derive(Clone, Copy)]
+pub struct Firing {
+    pub ones: u64,
+    pub dashes: u64,
+    pub states: u64,
 }
 
 // Whether places are not as they are meant: where one is meant to be 1 it is said to be 1 and no dash; where it is meant to be free, anything; else it is
@@ -126,8 +137,8 @@ fn sure_of(rows: [u64; ROW_WORDS], cols: &[u64], inputs: usize) -> [u64; ROW_WOR
 {
     let mut sure = rows;
     for j in 0..inputs {
-        let low = keep(sure, cols, j * 14);
-        sure = keep(low, cols, j * 14 + 7);
+        let low = keep(sure, cols, j * INPUT_WORDS);
+        sure = keep(low, cols, j * INPUT_WORDS + ROW_WORDS);
     }
     sure
 }
@@ -159,11 +170,20 @@ fn search(
         return is_failing(says, listing, cover, rows).then_some(v);
     }
     let low = keep(rows, cols, at);
-    let first = search(says, cols, listing, cover, at + 14, left - 1, v * 2, low);
+    let first = search(
+        says,
+        cols,
+        listing,
+        cover,
+        at + INPUT_WORDS,
+        left - 1,
+        v * 2,
+        low,
+    );
     if first.is_some() {
         return first;
     }
-    let high = keep(rows, cols, at + 7);
+    let high = keep(rows, cols, at + ROW_WORDS);
     if low == high {
         return None;
     }
@@ -172,7 +192,7 @@ fn search(
         cols,
         listing,
         cover,
-        at + 14,
+        at + INPUT_WORDS,
         left - 1,
         v * 2 + 1,
         high,
@@ -210,13 +230,26 @@ pub fn digit_at(m: u64, j: usize) -> u64
     u64::from(sets::member(m, j))
 }
 
+// Where that row of the table fires.
+fn firing_at(fires: &[u64; FIRES_WORDS], row: usize) -> Firing
+    requires { row < all_row_places }
+    ensures { result ≡ firing_at fires.now row }
+{
+    let at = row * 3;
+    Firing {
+        ones: fires[at],
+        dashes: fires[at + 1],
+        states: fires[at + 2],
+    }
+}
+
 // Whether a row lets the digit d stand at the input j.
 fn lets(fires: &[u64; FIRES_WORDS], row: usize, j: usize, d: u64) -> bool
     requires { row < all_row_places }
     ensures { result ≡ lets fires.now j d row }
 {
-    let at = row * 3;
-    sets::member(fires[at + 1], j) || digit_at(fires[at], j) == d
+    let at = firing_at(fires, row);
+    sets::member(at.dashes, j) || digit_at(at.ones, j) == d
 }
 
 // Whether a row fires in the state s.
@@ -224,7 +257,7 @@ fn stands(fires: &[u64; FIRES_WORDS], row: usize, s: usize) -> bool
     requires { row < all_row_places }
     ensures { result ≡ stands fires.now s row }
 {
-    sets::member(fires[row * 3 + 2], s)
+    sets::member(firing_at(fires, row).states, s)
 }
 
 // Of 64 rows from that one on those that pass a test, as a word with the first of them at the lowest digit.
@@ -244,9 +277,9 @@ fn word_of<F: Fn(usize) -> bool + Drop>(from: usize, test: F) -> u64
 fn column_word(fires: &[u64; FIRES_WORDS], w: usize) -> u64
     ensures { result ≡ column_word fires.now w }
 {
-    let j = w / 14;
-    let d = (w % 14 / 7) as u64;
-    word_of(w % 7 * 64, |row| lets(fires, row, j, d))
+    let j = w / INPUT_WORDS;
+    let d = (w % INPUT_WORDS / ROW_WORDS) as u64;
+    word_of(w % ROW_WORDS * 64, |row| lets(fires, row, j, d))
 }
 
 // All columns.

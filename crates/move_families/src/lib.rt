@@ -10,6 +10,8 @@ ghost use Rattle.families.specs.Families.{requirements_in};
 ghost use Rattle.move_families.specs.Swayed.{swayed_all, looks_all, doubled};
 ghost use Rattle.move_families.specs.Filled.{family_filled};
 
+use move_halves::Half;
+
 // What one family adds to the table at the bit b: both its halves.
 fn fill_family(all: u64, flip: u64, out: u64, b: u64, t: &mut [u32])
     ensures { t.new ≡ family_filled all flip out b t.old }
@@ -18,24 +20,15 @@ fn fill_family(all: u64, flip: u64, out: u64, b: u64, t: &mut [u32])
     let o = families::without_of(out, all);
     let right = o & b;
     let rest = o ^ right;
-    move_halves::put_half(
-        true,
-        move_halves::worth_of(out, right),
+    let half = Half {
         all,
-        x,
+        side: x,
         right,
         rest,
-        t,
-    );
-    move_halves::put_half(
-        true,
-        move_halves::worth_of(out, rest),
-        all,
-        all ^ x,
-        rest,
-        right,
-        t,
-    );
+    };
+    let other = half.turned(all ^ x);
+    move_halves::put_half(true, move_halves::worth_of(out, right), half, t);
+    move_halves::put_half(true, move_halves::worth_of(out, rest), other, t);
 }
 
 // What all the families of a list add.

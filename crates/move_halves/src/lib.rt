@@ -5,6 +5,29 @@ ghost use Rattle.std.specs.Prelude.{◌≡◌, true, ◌||◌, not, cond, eqb, l
 ghost use Rattle.sets.specs.Sets.{size};
 ghost use Rattle.move_halves.specs.Halves.{signed, side, worth, halved, near_at, swayed, looks_by, looks_of};
 
+// A half of a family: the members in common, those of them that must change, and of the states outside those that are right in it and the others.
+#[derive(Clone, Copy)]
+pub struct Half {
+    pub all: u64,
+    pub side: u64,
+    pub right: u64,
+    pub rest: u64,
+}
+
+impl Half {
+    // The other half, of which these must change: what is right in the one is not right in the other.
+    pub fn turned(self, side: u64) -> Half
+        ensures { (result.all ≡ self.all) × (result.side ≡ side) × (result.right ≡ self.rest) × (result.rest ≡ self.right) }
+    {
+        Half {
+            side,
+            right: self.rest,
+            rest: self.right,
+            ..self
+        }
+    }
+}
+
 // How many states there are, if they count: they are counted only then.
 fn states_of(yes: bool, m: u64) -> usize
     ensures { result ≡ cond yes (size m) 0 }
@@ -34,24 +57,24 @@ pub fn worth_of(out: u64, right: u64) -> u32
 }
 
 // The shares of a half that is worth w, put on the table or taken off.
-pub fn put_half(on: bool, w: u32, all: u64, side: u64, right: u64, rest: u64, t: &mut [u32])
-    ensures { t.new ≡ halved on w all side right rest t.old }
+pub fn put_half(on: bool, w: u32, half: Half, t: &mut [u32])
+    ensures { t.new ≡ halved on w half.all half.side half.right half.rest t.old }
 {
-    if side == 0 {
-        move_table::raise(t, all, signed_of(!on, w));
-        move_table::raise(t, right, signed_of(!on, 1));
-        move_table::raise(t, rest, signed_of(on, 1));
-    } else if sets::few(side) {
-        move_table::raise(t, side, signed_of(on, w));
+    if half.side == 0 {
+        move_table::raise(t, half.all, signed_of(!on, w));
+        move_table::raise(t, half.right, signed_of(!on, 1));
+        move_table::raise(t, half.rest, signed_of(on, 1));
+    } else if sets::few(half.side) {
+        move_table::raise(t, half.side, signed_of(on, w));
     }
 }
 
 // The shares of a half, by the states outside, which are counted only where it has shares.
-fn put_worth(on: bool, out: u64, all: u64, side: u64, right: u64, rest: u64, t: &mut [u32])
-    ensures { t.new ≡ halved on (worth out right) all side right rest t.old }
+fn put_worth(on: bool, out: u64, half: Half, t: &mut [u32])
+    ensures { t.new ≡ halved on (worth out half.right) half.all half.side half.right half.rest t.old }
 {
-    if sets::few(side) {
-        put_half(on, worth_of(out, right), all, side, right, rest, t);
+    if sets::few(half.side) {
+        put_half(on, worth_of(out, half.right), half, t);
     }
 }
 
@@ -81,30 +104,27 @@ fn looks_by(out: u64, x: u64, y: u64, right: u64, rest: u64) -> usize
     one + other
 }
 
-// The move of a member in common: the half whose side it leaves is put on, the other taken off. x and y are the sides without it.
-fn move_in(
-    on: bool,
-    out: u64,
-    all: u64,
-    x: u64,
-    y: u64,
-    right: u64,
-    rest: u64,
-    t: &mut [u32],
-) -> usize
-    ensures { (result ≡ looks_by out (size x) (size y) right rest) × (t.new ≡ halved (not on) (worth out rest) all y rest right (halved on (worth out right) all x right rest t.old)) }
+// The move of a member in common: the half whose side it leaves is put on, the other taken off. Both come with the sides that they have without it.
+fn move_in(on: bool, out: u64, half: Half, other: Half, t: &mut [u32]) -> usize
+    ensures { (result ≡ looks_by out (size half.side) (size other.side) half.right half.rest) × (t.new ≡ halved (not on) (worth out other.right) other.all other.side other.right other.rest (halved on (worth out half.right) half.all half.side half.right half.rest t.old)) }
 {
-    put_worth(on, out, all, x, right, rest, t);
-    put_worth(!on, out, all, y, rest, right, t);
-    looks_by(out, x, y, right, rest)
+    put_worth(on, out, half, t);
+    put_worth(!on, out, other, t);
+    looks_by(out, half.side, other.side, half.right, half.rest)
 }
 
 // The move of a state outside: its own requirement goes from the one half to the other.
 fn move_out(on: bool, all: u64, x: u64, y: u64, own: u64, t: &mut [u32])
     ensures { t.new ≡ halved (not on) 1 all y own 0 (halved on 1 all x own 0 t.old) }
 {
-    put_half(on, 1, all, x, own, 0, t);
-    put_half(!on, 1, all, y, own, 0, t);
+    let half = Half {
+        all,
+        side: x,
+        right: own,
+        rest: 0,
+    };
+    put_half(on, 1, half, t);
+    put_half(!on, 1, Half { side: y, ..half }, t);
 }
 
 // 1 if the move of s at the bit b can touch a family, and else 0: it has the state, and without it at most one must change, one way round or the other.
@@ -130,16 +150,13 @@ pub fn move_family(all: u64, flip: u64, out: u64, b: u64, s: usize, t: &mut [u32
     if sets::member(all, s) {
         let o = families::without_of(out, all);
         let right = o & b;
-        return move_in(
-            sets::member(b ^ flip, s),
-            out,
+        let half = Half {
             all,
-            x,
-            y,
+            side: x,
             right,
-            o ^ right,
-            t,
-        );
+            rest: o ^ right,
+        };
+        return move_in(sets::member(b ^ flip, s), out, half, half.turned(y), t);
     }
     if !sets::member(out, s) {
         return 0;

@@ -41,6 +41,7 @@ fn families_of(firsts: &[u64], seconds: &[u64]) -> [u64; WORDS]
     ensures { result ≡ stored firsts.now seconds.now }
 {
     let mut t = [0; WORDS];
+    // By place, since the three words of requirement i stand from word 3 * i on.
     for i in 0..firsts.len() {
         t[3 * i] = firsts[i] | seconds[i];
         t[3 * i + 1] = seconds[i];

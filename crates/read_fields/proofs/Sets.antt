@@ -12,7 +12,7 @@ use lib.Dec.{leb, eqb}
 use borrow.Author.Tests.{leb-true, le-leb, lt-leb}
 use Rattle.rules.specs.Text.{nought, one, dash, digit, set_of, all_of, sized}
 use Rattle.rules.specs.declared.Pattern.{Pattern}
-use Rattle.read_fields.specs.Fields.{places_of, places_in, pattern_in}
+use Rattle.read_fields.specs.Fields.{places_of, places_in, pattern_in, ones_in}
 use Rattle.read_fields.specs.declared.Places.{Places}
 use Rattle.read_fields.proofs.Characters.{drop-one, all_drop, sized-short}
 
@@ -137,3 +137,35 @@ module _ (most k : ℕ) (f : List ℕ) where
       go : (t : Bool) → sized most k nought one dash f ≡ t → pattern_in most k f ≡ cond t (Some (record { ones = set_of one f; dashes = set_of dash f })) None
       go true e = pattern-good (omega (arith, sized-short most k nought one dash f e)) e
       go false e = pattern-unfit e
+
+-- ---- a field of `0 1`
+
+module _ (most k : ℕ) (f : List ℕ) where
+  pub ones-places : places_in most k nought one one f ≡ cond (leb (length f) 64 && sized most k nought one one f) (Some (record { second = set_of one f; third = set_of one f })) None
+  unfolding places_in places_of sized
+  ones-places = go (leb (length f) most) (eqb (length f) k) (leb (length f) 64) (all_of nought one one f) _ _
+    where
+      go : (a b c d : Bool) {A : Type 0} (u v : A) → cond (a && b) (cond (c && d) u v) v ≡ cond (c && (a && (b && d))) u v
+      go true true c d u v = refl
+      go true false true d u v = refl
+      go true false false d u v = refl
+      go false b true d u v = refl
+      go false b false d u v = refl
+
+  -- within the limit of a mask
+  pub ones-sized : most ≤ 64 → ones_in most k f ≡ cond (sized most k nought one one f) (Some (set_of one f)) None
+  unfolding ones_in
+  ones-sized h = go (sized most k nought one one f) refl
+    where
+      go : (t : Bool) → sized most k nought one one f ≡ t → cond (leb (length f) 64 && t) (Some (set_of one f)) None ≡ cond t (Some (set_of one f)) None
+      go true e = rw (le-leb (length f) 64 (omega (arith, sized-short most k nought one one f e)))
+      go false e = rw (and-false (leb (length f) 64))
+
+  pub ones-read : {m : ℕ} → most ≤ 64 → ones_in most k f ≡ Some m → (sized most k nought one one f ≡ true) × (m ≡ set_of one f)
+  ones-read {m} h r = go (sized most k nought one one f) refl
+    where
+      go : (t : Bool) → sized most k nought one one f ≡ t → (sized most k nought one one f ≡ true) × (m ≡ set_of one f)
+      go true e = let q = ones-sized h in (e, cc)
+      go false e = let q = ones-sized h in let z : ◌≡◌ {A = ℕ} 0 1 = cc in absurd (omega arith)
+
+pub ruleset ones = (ones-places)

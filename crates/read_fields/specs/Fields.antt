@@ -25,3 +25,8 @@ pattern_in most k f =
     cond (leb (length f) 32 && sized most k nought one dash f)
     (Some (record { ones = set_of one f; dashes = set_of dash f }))
     None
+
+-- the ones of a field of `0 1`, of at most 64 characters
+unfoldable pub ones_in : ℕ → ℕ → List ℕ → Option ℕ
+unfolding sized set_of
+ones_in most k f = cond (leb (length f) 64 && sized most k nought one one f) (Some (set_of one f)) None

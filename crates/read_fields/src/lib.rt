@@ -3,7 +3,7 @@
 
 ghost use Rattle.std.specs.Prelude.{◌≡◌, ◌&&◌, ◌||◌, leb, eqb};
 ghost use Rattle.rules.specs.Text.{nought, nine, digit, numeral_of};
-ghost use Rattle.read_fields.specs.Fields.{number_shaped, places_of, places_in, pattern_in};
+ghost use Rattle.read_fields.specs.Fields.{number_shaped, places_of, places_in, pattern_in, ones_in};
 
 use rules::Pattern;
 
@@ -77,6 +77,15 @@ pub fn pattern_in(f: &[u8], most: usize, k: usize) -> Option<Pattern>
         ones: places.second as u32,
         dashes: places.third as u32,
     })
+}
+
+// The ones of a field of k characters `0 1`, at most `most` and at most 64.
+#[tactic(auto, using(crate::proofs::Sets::ones), unfolding(crate::specs::Fields::ones_in))]
+pub fn ones_in(f: &[u8], most: usize, k: usize) -> Option<u64>
+    ensures { result ≡ ones_in most k f.now }
+{
+    let places = places_in(f, most, k, b'0', b'1', b'1')?;
+    Some(places.second)
 }
 
 // Whether a field has a number's length and no needless leading zero.

@@ -112,14 +112,6 @@ module _ (h : Head) (columns : List (List ℕ)) where
 -- ---- all in one
 
 module _ (h : Head) (s : List ℕ) where
-  pub table_none : h.states < 1 → flow_table h s ≡ refused Limit 0
-  unfolding flow_table
-  table_none l = rw (lt-leb _ _ l)
-
-  pub table-many : 1 ≤ h.states → 64 < h.states → flow_table h s ≡ refused Limit 0
-  unfolding flow_table
-  table-many p l = rw (le-leb _ _ p, lt-leb _ _ l)
-
   pub table-read : 1 ≤ h.states → h.states ≤ 64 → flow_table h s ≡ flow_lines 2 h (lines_of s) (lines_of s)
   unfolding flow_table
   table-read p l = rw (le-leb _ _ p, le-leb _ _ l)

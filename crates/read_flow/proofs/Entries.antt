@@ -7,10 +7,10 @@ use Prim.Native.Nat.{ℕ, ◌+◌, ◌≤◌, ◌<◌}
 use native.Mathlib.Omega.{arith}
 use lib.ListN.{length, get_or}
 use lib.Dec.{leb, ltb, eqb}
-use borrow.Author.Tests.{leb-true, ltb-true, le-leb, lt-leb, eq-eqb, ne_eqb}
+use borrow.Author.Tests.{leb-true, ltb-true}
 use Rattle.sets.specs.Sets.{every}
 use Rattle.sets.proofs.Every.{every-at, at_every}
-use Rattle.rules.specs.Text.{bytes, same, fields_of, field_at, numeral_of}
+use Rattle.rules.specs.Text.{bytes, same, field_at, numeral_of}
 use Rattle.rules.specs.FlowLines.{entry_of, is_entry, value_of, entry_at, flow_line}
 use Rattle.rules.specs.declared.Refusal.TheVariants.{BadLine}
 use Rattle.read_marks.proofs.Mark.{same-unlike}
@@ -23,18 +23,6 @@ same-one (x ∷ []) a h = and-true (eqb x a)
 same-one (x ∷ (y ∷ xs)) a h = absurd (omega arith)
 
 module _ (n : ℕ) (f : List ℕ) where
-  pub entry-dash : same f (bytes "-") ≡ true → entry_of n f ≡ Some 64
-  unfolding entry_of
-  entry-dash e = rw e
-
-  pub entry-bad : same f (bytes "-") ≡ false → numeral_of f ≡ None → entry_of n f ≡ None
-  unfolding entry_of
-  entry-bad e q = rw (e, q)
-
-  pub entry-number : {v : ℕ} {b : Bool} → same f (bytes "-") ≡ false → numeral_of f ≡ Some v → ltb v n ≡ b → entry_of n f ≡ cond b (Some v) None
-  unfolding entry_of
-  entry-number e q l = rw (e, q, l)
-
   -- a state's number, or the dash's
   pub entry-below : (v : ℕ) → n ≤ 64 → entry_of n f ≡ Some v → v ≤ 64
   unfolding entry_of
@@ -73,22 +61,6 @@ module _ (n columns : ℕ) (l : List ℕ) where
       go false g = refl
 
   -- ---- a line
-
-  pub line-none : columns < 1 → flow_line n columns l ≡ Err BadLine
-  unfolding flow_line
-  line-none h = rw (lt-leb _ _ h)
-
-  pub line-many : 1 ≤ columns → 16 < columns → flow_line n columns l ≡ Err BadLine
-  unfolding flow_line
-  line-many p h = rw (le-leb _ _ p, lt-leb _ _ h)
-
-  pub line-unlike : 1 ≤ columns → columns ≤ 16 → (length (fields_of l) ≡ columns + 1 → ⊥) → flow_line n columns l ≡ Err BadLine
-  unfolding flow_line
-  line-unlike p h o = rw (le-leb _ _ p, le-leb _ _ h, ne_eqb _ _ o)
-
-  pub line-like : {b : Bool} → 1 ≤ columns → columns ≤ 16 → length (fields_of l) ≡ columns + 1 → all_entries n columns l ≡ b → flow_line n columns l ≡ cond b (Ok tt) (Err BadLine)
-  unfolding flow_line all_entries
-  line-like p h e q = rw (le-leb _ _ p, le-leb _ _ h, eq-eqb _ _ e, q)
 
   line-over : leb columns 16 ≡ false → flow_line n columns l ≡ Err BadLine
   unfolding flow_line

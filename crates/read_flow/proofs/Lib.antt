@@ -3,5 +3,4 @@ pub mod Tables
 pub mod Sets
 pub mod Gathered
 pub mod Ends
-pub mod Steps
 pub mod Filling

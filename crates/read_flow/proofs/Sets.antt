@@ -1,7 +1,6 @@
 -- The sets of a column, gathered state by state.
 use mathlib.Core.Path.{◌≡◌, refl, sym, ap, subst, ◌∙◌}
-use mathlib.Core.Logic.{⊎_elim}
-use mathlib.Core.Bool.{Bool, true, false, ◌&&◌, not}
+use mathlib.Core.Bool.{Bool, true, false, ◌&&◌}
 use mathlib.Core.List.{List, [], ◌∷◌, ◌++◌, map, append_assoc, append-nil}
 use Prim.Native.Nat.{ℕ, ◌+◌, ◌*◌, ◌%◌, ◌^◌, ◌≤◌, ◌<◌}
 use native.Mathlib.Numerals.{add-one}
@@ -11,25 +10,14 @@ use lib.Seq.{take-suc-set}
 use lib.Dec.{eqb}
 use lib.Bits.{bit_or}
 use Rattle.sets.specs.Sets.{has, only}
-use borrow.Author.Tests.{ltb-true, lt-ltb}
+use borrow.Author.Tests.{ltb-true}
 use Rattle.sets.proofs.Every.{and_first}
-use Rattle.sets.proofs.SizeMembers.{outside-or-member}
 use Rattle.rules.specs.Text.{set_of}
 use Rattle.rules.specs.FlowTable.{is_state, destinations_from, sets_of}
 use Rattle.sets.proofs.Members.{shl_one}
 use Rattle.read_fields.proofs.Characters.{drop-one}
 use Rattle.read_flow.specs.declared.asks.Sets.{Sets}
 use Rattle.read_flow.specs.Gathering.{no_sets, with_entry}
-
--- a state that was not met
-pub new_by : (met d : ℕ) {b : Bool} → d < 64 → b ≡ eqb (has met d) 1 → not b ≡ (is_state d && eqb (has met d) 0)
-new_by met d h e = rw (e, lt-ltb d 64 h) (⊎_elim out inside (outside-or-member met d))
-  where
-    out : has met d ≡ 0 → not (eqb (has met d) 1) ≡ eqb (has met d) 0
-    out q = rw q
-
-    inside : has met d ≡ 1 → not (eqb (has met d) 1) ≡ eqb (has met d) 0
-    inside q = rw q
 
 pub new-below : (met d : ℕ) → (is_state d && eqb (has met d) 0) ≡ true → d < 64
 new-below met d e = ltb-true d 64 (and_first (is_state d) (eqb (has met d) 0) e)

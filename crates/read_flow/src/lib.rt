@@ -94,6 +94,7 @@ fn read_lines(h: Head, s: &[u8]) -> Result<Flow, Refused>
     let mut end = read_pieces::cut(s, 0, b'\n');
     while end < s.len() {
         let said = says::line_said(k, n, columns, &s[at..end]);
+        // An answer that is no step holds why the line is refused.
         let Ok(step) = said else {
             return Err(said.err().unwrap_or(Refusal::BadLine).at(k));
         };

@@ -10,7 +10,7 @@ use lib.Dec.{ltb, eqb}
 use borrow.Author.Tests.{le-leb, lt-leb}
 use Rattle.rules.specs.Limits.{most_bytes}
 use Rattle.rules.specs.Text.{lines_of, mark_of}
-use Rattle.rules.specs.Listing.{blank, rows_of, refused, conflict, or_else, judged}
+use Rattle.rules.specs.Listing.{blank, rows_of, conflict, or_else, judged}
 use Rattle.rules.specs.KissLines.{kiss_mark}
 use Rattle.rules.specs.Kiss.{no_draft, kiss_placed, cut_to, listing_of, disagrees, disagreement, kiss_made, kiss_lines, kiss_reading}
 use Rattle.rules.specs.declared.KissHeads.{KissHeads}
@@ -18,19 +18,20 @@ use Rattle.rules.specs.declared.Listing.{Listing}
 use Rattle.rules.specs.declared.Row.{Row}
 use Rattle.rules.specs.declared.Told.{Told}
 use Rattle.rules.specs.declared.Refusal.TheVariants.{BadLine, Limit, Place, Names}
-use Rattle.rules.specs.declared.Verdict.{Verdict}
+use Rattle.rules.specs.Refusals.{Verdict, refused}
 use Rattle.read_answers.proofs.Behind.{none-behind, some-behind}
 use Rattle.read_pieces.proofs.Laws.{part}
 use Rattle.read_kiss.specs.Walks.{after_end, broken}
+use Rattle.std.specs.Prelude.{Ok}
 
 -- ---- bytes behind `.e`
 
 module _ (k : ℕ) where
-  pub end_more : (s : List ℕ) → (length s ≡ 0 → ⊥) → after_end k (lines_of s) ≡ Verdict.Refused Place (k + 1)
+  pub end_more : (s : List ℕ) → (length s ≡ 0 → ⊥) → after_end k (lines_of s) ≡ refused Place (k + 1)
   unfolding after_end
   end_more s e = rw (some-behind s e)
 
-  pub end-here : (s : List ℕ) → length s ≡ 0 → after_end k (lines_of s) ≡ Verdict.Accepted
+  pub end-here : (s : List ℕ) → length s ≡ 0 → after_end k (lines_of s) ≡ Ok tt
   unfolding after_end
   end-here s e = rw (none-behind s e)
 
@@ -42,7 +43,7 @@ module _ (k : ℕ) where
 
 -- ---- what disagrees
 
-pub disagrees-by : (t : Told) (count : ℕ) {a b : Bool} → eqb t.line 0 ≡ a → eqb t.number count ≡ b → disagrees t count ≡ cond (a || b) Verdict.Accepted (Verdict.Refused Names t.line)
+pub disagrees-by : (t : Told) (count : ℕ) {a b : Bool} → eqb t.line 0 ≡ a → eqb t.number count ≡ b → disagrees t count ≡ cond (a || b) (Ok tt) (refused Names t.line)
 unfolding disagrees
 disagrees-by t count e f = rw (e, f)
 
@@ -59,12 +60,12 @@ disagreement-by h n {s} {p} {b} e f g = go (ltb h.states.line h.products.line) �
 -- ---- a line without LF
 
 module _ (k : ℕ) (h : KissHeads) where
-  pub unended-none : (l : List ℕ) → length l ≡ 0 → broken k h l ≡ Verdict.Refused Place k
+  pub unended-none : (l : List ℕ) → length l ≡ 0 → broken k h l ≡ record { refusal = Place; line = k }
   unfolding broken
   unended-none [] e = refl
   unended-none (x ∷ xs) e = absurd (omega arith)
 
-  pub unended-some : (l : List ℕ) {b : Bool} → (length l ≡ 0 → ⊥) → kiss_placed (kiss_mark (mark_of l)) h ≡ b → broken k h l ≡ cond b (Verdict.Refused BadLine k) (Verdict.Refused Place k)
+  pub unended-some : (l : List ℕ) {b : Bool} → (length l ≡ 0 → ⊥) → kiss_placed (kiss_mark (mark_of l)) h ≡ b → broken k h l ≡ cond b (record { refusal = BadLine; line = k }) (record { refusal = Place; line = k })
   unfolding broken
   unended-some [] o e = absurd (o refl)
   unended-some (x ∷ xs) o e = rw e

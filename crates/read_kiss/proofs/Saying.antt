@@ -13,8 +13,7 @@ use Rattle.sets.proofs.Every.{and_first}
 use Rattle.rules.specs.Limits.{most_inputs, most_outputs}
 use Rattle.rules.specs.Text.{mark_of, fields_of, field_at}
 use Rattle.rules.specs.KissLines.{kiss_mark, number_line, is_short, reset_fits, row_fields_fit}
-use Rattle.rules.specs.Kiss.{Draft, KissStep, goes, ends, stops, with_heads, with_inputs, with_outputs, with_states, with_products, with_reset, pattern_of, row_does}
-use Rattle.rules.specs.Kiss.{on_number, inputs_do, outputs_do, reset_does, end_does, row_line_does, kiss_placed, kiss_does, kiss_step}
+use Rattle.rules.specs.Kiss.{Draft, KissStep, goes, ends, stops, with_heads, with_inputs, with_outputs, with_states, with_products, with_reset, pattern_of, row_does, on_number, inputs_do, outputs_do, reset_does, end_does, row_line_does, kiss_placed, kiss_does, kiss_step}
 use Rattle.rules.specs.declared.KissHeads.{KissHeads}
 use Rattle.rules.specs.declared.KissMark.{KissMark}
 use Rattle.rules.specs.declared.Refusal.TheVariants.{BadLine, Limit, Place, Names}

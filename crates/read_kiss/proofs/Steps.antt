@@ -1,6 +1,6 @@
 -- The lines from one on: what the next line does decides what all of them say, and what the code does with it is that.
 use Rattle.rules.specs.declared.Refusal.{Refusal}
-use Rattle.std.specs.Prelude.{Result, Option, Ok, Some, None}
+use Rattle.std.specs.Prelude.{Result, Option, Ok, Some, None, Err}
 use mathlib.Core.Path.{◌≡◌, refl, sym, ap, ap₂, ◌∙◌, subst}
 use mathlib.Core.Bool.{Bool, true, false}
 use mathlib.Core.List.{List, [], ◌∷◌, ◌++◌}
@@ -14,7 +14,7 @@ use Rattle.rules.specs.Listing.{no_row}
 use Rattle.rules.specs.Kiss.{Draft as Drafted, KissStep, goes, ends, stops, no_draft, with_reset, with_line, place_of, row_does, kiss_step}
 use Rattle.rules.specs.declared.KissHeads.{KissHeads}
 use Rattle.rules.specs.declared.Row.{Row}
-use Rattle.rules.specs.declared.Verdict.{Verdict}
+use Rattle.rules.specs.Refusals.{refused}
 use Rattle.rules.specs.declared.Refusal.TheVariants.{Limit}
 use Rattle.read_pieces.proofs.Laws.{part, Cut, split-some}
 use Rattle.read_names.specs.Names.{piece_of, names_in, no_names, with_name}
@@ -30,24 +30,25 @@ use Rattle.read_kiss_rows.proofs.NamesMeant.{no-names-room, more_room, names-cou
 use Rattle.read_kiss_rows.proofs.Meant.{Room, more-means}
 use Rattle.read_kiss.specs.declared.says.Said.{Said}
 use Rattle.read_kiss.specs.Says.{line_says, step_of, moved_by, moved_row, no_draft_yet, reset_to}
-use Rattle.read_kiss.specs.Walks.{after_end, broken, walked}
+use Rattle.read_kiss.specs.Walks.{after_end, broken, ended_with, walked}
 use Rattle.read_kiss.proofs.Fields.{Inside, piece-moved}
 use Rattle.read_kiss.proofs.Saying.{says-step}
+use Rattle.rules.specs.declared.Refused.{Refused}
 
 -- ---- line by line
 
 -- behind a line that does x, the rest of the lines
-abbrev pub behind : KissStep → ℕ → Drafted → List (List ℕ) → Verdict × Drafted
+abbrev pub behind : KissStep → ℕ → Drafted → List (List ℕ) → Result Drafted Refused
 behind (goes u) k d rest = walked (k + 1) u rest
-behind ends k d rest = (after_end k rest, d)
-behind (stops r) k d rest = (Verdict.Refused r k, d)
+behind ends k d rest = ended_with d (after_end k rest)
+behind (stops r) k d rest = refused r k
 
 read-cons : (k : ℕ) (d : Drafted) (l : List ℕ) (rest : List (List ℕ)) → 1 ≤ length rest → walked k d (l ∷ rest) ≡ behind (kiss_step k d l) k d rest
 unfolding walked
 read-cons k d l [] h = absurd (omega arith)
 read-cons k d l (m ∷ ms) h = go (kiss_step k d l)
   where
-    go : (x : KissStep) → elim x as (λ _. Verdict × Drafted) [ goes u ↦ walked (k + 1) u (m ∷ ms) | ends ↦ (after_end k (m ∷ ms), d) | stops r ↦ (Verdict.Refused r k, d) ] ≡ behind x k d (m ∷ ms)
+    go : (x : KissStep) → elim x as (λ _. Result Drafted Refused) [ goes u ↦ walked (k + 1) u (m ∷ ms) | ends ↦ ended_with d (after_end k (m ∷ ms)) | stops r ↦ refused r k ] ≡ behind x k d (m ∷ ms)
     go (goes u) = refl
     go ends = refl
     go (stops r) = refl
@@ -63,7 +64,7 @@ read-line s d room k at r {x} c h e =
     ∙ ap (λ (y : KissStep). behind y k (draft_in s d) (lines_of (drop (r + 1) s))) (sym (says-step (part s at r) k (draft_in s d)) ∙ ap (λ (y : Result Said Refusal). step_of (part s at r) k y (draft_in s d)) (sym same))
 
 -- what stands behind the last LF
-pub read-last : (s : List ℕ) (d : Draft) (k at r : ℕ) → Cut lf s at r → length s ≤ r → walked k (draft_in s d) (lines_of (drop at s)) ≡ (broken k d.heads (part s at (length s)), draft_in s d)
+pub read-last : (s : List ℕ) (d : Draft) (k at r : ℕ) → Cut lf s at r → length s ≤ r → walked k (draft_in s d) (lines_of (drop at s)) ≡ Err (broken k d.heads (part s at (length s)))
 unfolding walked draft_in
 read-last s d k at r c h =
     let z : r ≡ length s = omega arith in

@@ -5,8 +5,8 @@ ghost use Rattle.rules.specs.Text.{lines_of};
 ghost use Rattle.rules.specs.Kiss.{cut_to, listing_of, disagrees, disagreement, kiss_made};
 ghost use Rattle.read_kiss.specs.Walks.{after_end, broken};
 
-use read_answers::{or_else, refuse};
-use rules::{Head, KissHeads, Listing, Reading, Refusal, Row, Told, Verdict};
+use read_answers::or_else;
+use rules::{Head, KissHeads, Listing, Refusal, Refused, Row, Told};
 
 // The rows with each group cut to the n states that there are.
 fn cut_table(n: usize, table: [Row; rules::MOST_ROWS]) -> [Row; rules::MOST_ROWS]
@@ -45,20 +45,20 @@ fn listing_of(h: KissHeads, n: usize, rows: usize, table: [Row; rules::MOST_ROWS
 }
 
 // Whether a header told another number than the count: 12 at its line.
-fn disagreement_of(t: Told, count: usize) -> Verdict
+fn disagreement_of(t: Told, count: usize) -> Result<(), Refused>
     ensures { result ≡ disagrees t count }
 {
     if t.line == 0 {
-        return Verdict::Accepted;
+        return Ok(());
     }
     if t.number == count {
-        return Verdict::Accepted;
+        return Ok(());
     }
-    Verdict::Refused(Refusal::Names, t.line)
+    Err(Refusal::Names.at(t.line))
 }
 
 // `.s` against the n names and `.p` against the lines of rows, the earlier line first.
-fn first_disagreement(h: KissHeads, n: usize) -> Verdict
+fn first_disagreement(h: KissHeads, n: usize) -> Result<(), Refused>
     ensures { result ≡ disagreement h n }
 {
     let states = disagreement_of(h.states, n);
@@ -70,18 +70,18 @@ fn first_disagreement(h: KissHeads, n: usize) -> Verdict
 }
 
 // After `.e`, which stood on line k: bytes behind it are 3, on the line after its own.
-pub fn after_end(k: usize, rest: &[u8]) -> Verdict
+pub fn after_end(k: usize, rest: &[u8]) -> Result<(), Refused>
     requires { k < 18446744073709551615 }
     ensures { result ≡ after_end k (lines_of rest.now) }
 {
     if rest.len() != 0 {
-        return Verdict::Refused(Refusal::Place, k + 1);
+        return Err(Refusal::Place.at(k + 1));
     }
-    Verdict::Accepted
+    Ok(())
 }
 
 // When all lines are read, behind n names: 12, then 6.
-pub fn finish(h: KissHeads, n: usize, rows: usize, table: [Row; rules::MOST_ROWS]) -> Reading
+pub fn finish(h: KissHeads, n: usize, rows: usize, table: [Row; rules::MOST_ROWS]) -> Result<Listing, Refused>
     requires { n ≤ most_states }
     ensures { result ≡ kiss_made h n rows table }
 {
@@ -89,25 +89,19 @@ pub fn finish(h: KissHeads, n: usize, rows: usize, table: [Row; rules::MOST_ROWS
     let wrong = first_disagreement(h, n);
     let made = t.table;
     let clash = read_conflict::first_clash(t.rows, made);
-    let verdict = or_else(wrong, clash);
-    match verdict {
-        Verdict::Refused(r, line) => refuse(r, line),
-        Verdict::Accepted => Reading {
-            verdict: Verdict::Accepted,
-            listing: t,
-        },
-    }
+    or_else(wrong, clash)?;
+    Ok(t)
 }
 
-// What stands behind the last LF, as line k.
-pub fn break_off(k: usize, h: KissHeads, l: &[u8]) -> Verdict
+// Why the text breaks off with what stands behind the last LF, as line k.
+pub fn break_off(k: usize, h: KissHeads, l: &[u8]) -> Refused
     ensures { result ≡ broken k h l.now }
 {
     if l.len() == 0 {
-        return Verdict::Refused(Refusal::Place, k);
+        return Refusal::Place.at(k);
     }
     if read_kiss_lines::heads::in_place(read_kiss_lines::marks::mark_of(l), h) {
-        return Verdict::Refused(Refusal::BadLine, k);
+        return Refusal::BadLine.at(k);
     }
-    Verdict::Refused(Refusal::Place, k)
+    Refusal::Place.at(k)
 }

@@ -7,16 +7,15 @@ mod says;
 ghost use Rattle.std.specs.Prelude.{◌≡◌, ◌+◌, ◌<◌, ◌≤◌};
 ghost use Rattle.rules.specs.Limits.{most_states};
 ghost use Rattle.rules.specs.Text.{lines_of};
-ghost use Rattle.rules.specs.Kiss.{with_line, no_draft, kiss_reading};
+ghost use Rattle.rules.specs.Kiss.{with_line, no_draft, kiss_made, kiss_reading};
 ghost use Rattle.read_kiss_rows.specs.Drafts.{more_of};
 ghost use Rattle.read_kiss.specs.Says.{Places, moved_by, moved_row, no_draft_yet, reset_to};
-ghost use Rattle.read_kiss.specs.Walks.{walked, Walks, made_by, NamedBy};
+ghost use Rattle.read_kiss.specs.Walks.{walked, Walks, NamedBy};
 
-use read_answers::refuse;
 use read_kiss_lines::row::{KissRow, StatePieces};
 use read_kiss_rows::Draft;
 use read_names::{Names, Piece};
-use rules::{KissHeads, Pattern, Reading, Refusal, Row, Told, Verdict};
+use rules::{KissHeads, Listing, Pattern, Refusal, Refused, Row, Told};
 use says::Said;
 
 // No headers, names or rows yet.
@@ -90,16 +89,9 @@ fn row_added(s: &[u8], at: usize, k: usize, row: KissRow, d: Draft) -> Option<Dr
     read_kiss_rows::with_row(s, k, whole, h, d)
 }
 
-// How far the lines come: why the text is refused, if one of them refuses it, and what they have made by then.
-#[derive(Clone, Copy)]
-struct Walk {
-    verdict: Verdict,
-    draft: Draft,
-}
-
-// The lines from the top, until one of them decides.
-fn read_lines(s: &[u8]) -> Walk
-    ensures { Walks s.now result.verdict result.draft (walked 1 no_draft (lines_of s.now)) }
+// The lines from the top, until one of them decides: what they have made, or the refusal of one of them.
+fn read_lines(s: &[u8]) -> Result<Draft, Refused>
+    ensures { Walks s.now result (walked 1 no_draft (lines_of s.now)) }
 {
     let mut d = no_draft();
     let mut k: usize = 1;
@@ -107,22 +99,21 @@ fn read_lines(s: &[u8]) -> Walk
     let mut end = read_pieces::cut(s, 0, b'\n');
     while end < s.len() {
         let said = says::line_said(k, d.heads, d.names.count, &s[at..end]);
+        // An answer that is no step holds why the line is refused.
         let Ok(step) = said else {
-            let verdict = Verdict::Refused(said.err().unwrap_or(Refusal::BadLine), k);
-            return Walk { verdict, draft: d };
+            return Err(said.err().unwrap_or(Refusal::BadLine).at(k));
         };
         let next = end + 1;
         match step {
             Said::End => {
-                let verdict = ending::after_end(k, &s[next..]);
-                return Walk { verdict, draft: d };
+                ending::after_end(k, &s[next..])?;
+                return Ok(d);
             }
             Said::Heads(h) => d.heads = h,
             Said::Reset(p) => d = with_reset(at, p, d),
             Said::Row(row) => {
                 let Some(more) = row_added(s, at, k, row, d) else {
-                    let verdict = Verdict::Refused(Refusal::Limit, k);
-                    return Walk { verdict, draft: d };
+                    return Err(Refusal::Limit.at(k));
                 };
                 d = more;
             }
@@ -131,55 +122,38 @@ fn read_lines(s: &[u8]) -> Walk
         k += 1;
         end = read_pieces::cut(s, at, b'\n');
     }
-    let verdict = ending::break_off(k, d.heads, &s[at..]);
-    Walk { verdict, draft: d }
+    Err(ending::break_off(k, d.heads, &s[at..]))
 }
 
 // The listing that the lines made, or the refusal.
-fn made_of(w: Walk) -> Reading
-    requires { w.draft.names.count ≤ most_states }
-    ensures { result ≡ made_by w.verdict w.draft.heads w.draft.names.count w.draft.rows w.draft.table }
+fn made_of(d: Draft) -> Result<Listing, Refused>
+    requires { d.names.count ≤ most_states }
+    ensures { result ≡ kiss_made d.heads d.names.count d.rows d.table }
 {
-    let verdict = w.verdict;
-    match verdict {
-        Verdict::Refused(r, line) => refuse(r, line),
-        Verdict::Accepted => {
-            let table = w.draft.table;
-            ending::finish(w.draft.heads, w.draft.names.count, w.draft.rows, table)
-        }
-    }
+    let table = d.table;
+    ending::finish(d.heads, d.names.count, d.rows, table)
 }
 
 // Any bytes at all: the listing, or the refusal and its line.
-pub fn read_kiss(bytes: &[u8]) -> Reading
+pub fn read_kiss(bytes: &[u8]) -> Result<Listing, Refused>
     ensures { result ≡ kiss_reading bytes.now }
 {
     if rules::MOST_BYTES < bytes.len() {
-        return refuse(Refusal::Limit, 0);
+        return Err(Refusal::Limit.at(0));
     }
-    made_of(read_lines(bytes))
+    let d = read_lines(bytes)?;
+    made_of(d)
 }
 
-// The names of the states, as places in the bytes; or why there are none.
-#[derive(Clone, Copy)]
-pub struct Named {
-    pub verdict: Verdict,
-    pub names: Names,
-}
-
-// The same of the names: the verdict is that on the whole text.
-pub fn read_named(bytes: &[u8]) -> Named
-    ensures { NamedBy bytes.now result.verdict result.names }
+// The names of the states, as places in the bytes; or the refusal of the whole text, and its line.
+pub fn read_named(bytes: &[u8]) -> Result<Names, Refused>
+    ensures { NamedBy bytes.now result }
 {
     if rules::MOST_BYTES < bytes.len() {
-        return Named {
-            verdict: Verdict::Refused(Refusal::Limit, 0),
-            names: read_names::no_names(),
-        };
+        return Err(Refused::from(Refusal::Limit));
     }
-    let walk = read_lines(bytes);
-    let read = made_of(walk);
-    let verdict = read.verdict;
-    let names = walk.draft.names;
-    Named { verdict, names }
+    let d = read_lines(bytes)?;
+    made_of(d)?;
+    let names = d.names;
+    Ok(names)
 }

@@ -3,7 +3,7 @@ use Rattle.rules.specs.declared.Refusal.{Refusal}
 use Rattle.std.specs.Prelude.{◌&&◌, cond, List, ℕ, zero, suc, ◌+◌, length, leb, eqb, Result, Option, Ok, Err, Some, None}
 use Rattle.rules.specs.Limits.{most_inputs, most_outputs}
 use Rattle.rules.specs.Text.{space, split, fields_of, field_at, set_of}
-use Rattle.rules.specs.KissLines.{dotted, is_filled, is_short, reset_fits, row_fields_fit}
+use Rattle.rules.specs.KissLines.{is_filled, is_short, reset_fits, row_fields_fit}
 use Rattle.rules.specs.Kiss.{with_inputs, with_outputs, with_states, with_products, pattern_of}
 use Rattle.rules.specs.declared.KissHeads.{KissHeads}
 use Rattle.rules.specs.declared.KissMark.{KissMark}
@@ -13,12 +13,6 @@ use Rattle.read_pieces.specs.Pieces.{end_of}
 use Rattle.read_names.specs.declared.Piece.{Piece}
 use Rattle.read_kiss_lines.specs.declared.row.StatePieces.{StatePieces}
 use Rattle.read_kiss_lines.specs.declared.row.KissRow.{KissRow}
-
--- ---- marks
-
-unfoldable pub mark_else : List ℕ → KissMark
-unfolding dotted
-mark_else f = cond (dotted f) KissMark.Unknown KissMark.Row
 
 -- ---- headers
 

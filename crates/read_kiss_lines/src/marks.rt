@@ -1,51 +1,24 @@
 // The mark that leads a line: its whole first field, compared with six fixed strings.
 ghost use Rattle.std.specs.Prelude.{◌≡◌};
 ghost use Rattle.rules.specs.Text.{mark_of};
-ghost use Rattle.rules.specs.KissLines.{dotted, kiss_mark};
-ghost use Rattle.read_kiss_lines.specs.Says.{mark_else};
+ghost use Rattle.rules.specs.KissLines.{kiss_mark};
 
-use read_names::same_bytes;
 use rules::KissMark;
 
-// Whether a field begins with a dot.
-#[tactic(auto, unfolding(rules::specs::KissLines::dotted))]
-fn is_dotted(f: &[u8]) -> bool
-    ensures { result ≡ dotted f.now }
-{
-    matches!(f, [b'.', ..])
-}
-
-// What a field is that is none of the six marks.
-#[tactic(auto, unfolding(crate::specs::Says::mark_else))]
-fn mark_else(f: &[u8]) -> KissMark
-    ensures { result ≡ mark_else f.now }
-{
-    if is_dotted(f) {
-        KissMark::Unknown
-    } else {
-        KissMark::Row
-    }
-}
-
-// Which mark a field is.
-#[tactic(auto, unfolding(rules::specs::KissLines::kiss_mark, crate::specs::Says::mark_else))]
+// Which mark a field is; one that none of the six is, but begins with a dot, is unknown, and any other leads a row.
+#[tactic(auto, using(read_names::proofs::Same::unlike), unfolding(rules::specs::KissLines::kiss_mark, rules::specs::KissLines::dotted))]
 fn mark_in(f: &[u8]) -> KissMark
     ensures { result ≡ kiss_mark f.now }
 {
-    if same_bytes(f, b".i") {
-        KissMark::Inputs
-    } else if same_bytes(f, b".o") {
-        KissMark::Outputs
-    } else if same_bytes(f, b".s") {
-        KissMark::States
-    } else if same_bytes(f, b".p") {
-        KissMark::Products
-    } else if same_bytes(f, b".r") {
-        KissMark::Reset
-    } else if same_bytes(f, b".e") {
-        KissMark::End
-    } else {
-        mark_else(f)
+    match f {
+        b".i" => KissMark::Inputs,
+        b".o" => KissMark::Outputs,
+        b".s" => KissMark::States,
+        b".p" => KissMark::Products,
+        b".r" => KissMark::Reset,
+        b".e" => KissMark::End,
+        [b'.', ..] => KissMark::Unknown,
+        _ => KissMark::Row,
     }
 }
 

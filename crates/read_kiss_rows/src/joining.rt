@@ -7,7 +7,7 @@ use super::Draft;
 use read_names::Names;
 use rules::{KissHeads, Pattern, Row};
 
-// Whether two fields of `0 1 -` are the same.
+// Whether two fields of `0 1 -` are the same: mask by mask, since a `Pattern` has no `==` of its own.
 fn same_pattern(p: Pattern, q: Pattern) -> bool
     ensures { result ≡ same_pattern p q }
 {

@@ -1,12 +1,9 @@
 // `PT input group next outputs`, and in a Moore machine `PT input group next`: a row.
 ghost use Rattle.std.specs.Prelude.{◌≡◌};
-ghost use Rattle.rules.specs.Limits.{most_states};
-ghost use Rattle.rules.specs.Text.{nought, one};
-ghost use Rattle.read_fields.specs.Fields.{places_in};
 ghost use Rattle.rules.specs.Lines.{row_checked, row_line};
 ghost use Rattle.read_lines.specs.Rows.{row_read, row_end, row_rest};
 
-use read_fields::{Places, pattern_in};
+use read_fields::{ones_in, pattern_in};
 use read_pieces::{behind, cut, first_of, stands_at};
 use rules::{Head, Pattern, Refusal, Row};
 
@@ -26,13 +23,6 @@ fn row_checked(count: usize, row: Row) -> Result<Row, Refusal>
     Ok(row)
 }
 
-// The states that a field of k characters `0 1` names.
-fn states_in(f: &[u8], k: usize) -> Option<Places>
-    ensures { result ≡ places_in most_states k nought one one f.now }
-{
-    read_fields::places_in(f, rules::MOST_STATES, k, b'0', b'1', b'1')
-}
-
 // The row of the three fields that every row has, and of outputs that are read already.
 #[tactic(auto, using(crate::proofs::row::Laws::read), unfolding(crate::specs::Rows::row_read, rules::specs::Lines::row_fits))]
 fn row_read(
@@ -47,14 +37,14 @@ fn row_read(
     ensures { result ≡ row_read h count line input.now group.now next.now outputs }
 {
     let asked = pattern_in(input, rules::MOST_INPUTS, h.inputs).ok_or(Refusal::BadLine)?;
-    let states = states_in(group, h.states).ok_or(Refusal::BadLine)?;
-    let named = states_in(next, h.states).ok_or(Refusal::BadLine)?;
+    let states = ones_in(group, rules::MOST_STATES, h.states).ok_or(Refusal::BadLine)?;
+    let named = ones_in(next, rules::MOST_STATES, h.states).ok_or(Refusal::BadLine)?;
     row_checked(
         count,
         Row {
             input: asked,
-            group: states.second,
-            next: named.second,
+            group: states,
+            next: named,
             outputs: outputs,
             line: line,
         },

@@ -14,7 +14,7 @@ use Rattle.rules.specs.Text.{bytes, same, split, lf, lines_of, mark_of, mark_is}
 use Rattle.rules.specs.Lines.{head_line}
 use Rattle.rules.specs.FlowTable.{flow_asks, stability}
 use Rattle.rules.specs.FlowLines.{flow_head, column_count, columns_of, FlowStep, flow_goes, flow_ends, flow_stops, flow_placed}
-use Rattle.rules.specs.Listing.{blank, with_head, with_dichotomy, with_dichotomies, accepted, nothing, conflict, checked, read_lines, read_all, flow_step, flow_gives, flow_read, flow_ended, flow_unended, flow_lines, Reading}
+use Rattle.rules.specs.Listing.{blank, with_head, with_dichotomy, with_dichotomies, nothing, conflict, checked, read_lines, read_all, flow_step, flow_gives, flow_read, flow_ended, flow_unended, flow_lines, Reading}
 use Rattle.rules.specs.declared.Head.{Head}
 use Rattle.rules.specs.declared.Listing.{Listing}
 use Rattle.rules.specs.declared.Requirement.{Requirement}
@@ -29,17 +29,6 @@ use Rattle.read_flow.specs.Flows.{flow_of, flow_table}
 use Rattle.read_flow.proofs.Ends.{table-read}
 use Rattle.read_listing.specs.Says.{flow_listing, reading_of}
 use Rattle.rules.specs.declared.Refused.{Refused}
-
--- ---- the head
-
-module _ (l m : List ℕ) where
-  pub head-by : {a b : Bool} → same (mark_of l) (bytes "MC") ≡ a → same (mark_of m) (bytes "FT") ≡ b → flow_head l m ≡ cond (a && b) (head_line false l) (Err Place)
-  unfolding flow_head
-  head-by e f = rw (e, f)
-
-  pub head-other : same (mark_of l) (bytes "MC") ≡ false → flow_head l m ≡ Err Place
-  unfolding flow_head
-  head-other e = rw e
 
 -- ---- what is read
 

@@ -91,6 +91,7 @@ fn read_lines(s: &[u8], t: &mut Listing) -> Result<(), Refused>
     let mut end = read_pieces::cut(s, 0, b'\n');
     while end < s.len() {
         let said = says::line_said(k, t.head, t.rows, t.dichotomies, t.given, &s[at..end]);
+        // An answer that is no step holds why the line is refused.
         let Ok(step) = said else {
             return Err(said.err().unwrap_or(Refusal::BadLine).at(k));
         };

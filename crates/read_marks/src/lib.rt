@@ -18,26 +18,19 @@ pub fn is_mark(f: &[u8], m: &[u8; 2]) -> bool
 }
 
 // Which mark a field is.
-#[tactic(auto, unfolding(rules::specs::Text::mark_is))]
+#[tactic(auto, using(crate::proofs::Mark::two_bytes), unfolding(rules::specs::Text::mark_is))]
 fn mark_in(f: &[u8]) -> Mark
     ensures { result ≡ mark_is f.now }
 {
-    if is_mark(f, b"MC") {
-        Mark::Mc
-    } else if is_mark(f, b"MO") {
-        Mark::Mo
-    } else if is_mark(f, b"PT") {
-        Mark::Pt
-    } else if is_mark(f, b"DI") {
-        Mark::Di
-    } else if is_mark(f, b"OU") {
-        Mark::Ou
-    } else if is_mark(f, b"FT") {
-        Mark::Ft
-    } else if is_mark(f, b"EN") {
-        Mark::En
-    } else {
-        Mark::Unknown
+    match f {
+        b"MC" => Mark::Mc,
+        b"MO" => Mark::Mo,
+        b"PT" => Mark::Pt,
+        b"DI" => Mark::Di,
+        b"OU" => Mark::Ou,
+        b"FT" => Mark::Ft,
+        b"EN" => Mark::En,
+        _ => Mark::Unknown,
     }
 }
 

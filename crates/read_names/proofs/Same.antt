@@ -9,6 +9,7 @@ use lib.Dec.{eqb}
 use lib.Pointwise.{pointwise}
 use Rattle.sets.proofs.Places.{take-most}
 use Rattle.rules.specs.Text.{same}
+use Rattle.read_marks.proofs.Mark.{same-unlike}
 use Rattle.read_names.specs.Names.{piece_of}
 use Rattle.read_names.specs.declared.Piece.{Piece}
 
@@ -23,6 +24,8 @@ same-equal (x ∷ xs) [] = refl
 same-equal (x ∷ xs) (y ∷ ys) = ap (λ (t : Bool). eqb x y && t) (same-equal xs ys)
 
 pub ruleset equal = (same-equal)
+
+pub ruleset unlike = (same-unlike)
 
 -- ---- the bytes of a piece, whose end is cut to the text's
 

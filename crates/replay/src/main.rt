@@ -59,7 +59,7 @@ fn piece_of(bytes: &[u8], filled: usize, last: bool) -> usize
 fn is_open(place: Place) -> bool {
     match place {
         Place::First => true,
-        Place::Behind(_, _, _) => true,
+        Place::Behind { .. } => true,
         Place::Over => false,
     }
 }

@@ -5,7 +5,7 @@ ghost use Rattle.std.specs.Prelude.{◌≡◌};
 ghost use Rattle.rules.specs.Replay.{marked, start_line, vector_line};
 ghost use Rattle.read_marks.specs.Marks.{two_of};
 
-use read_fields::{numeral_of, places_in};
+use read_fields::{numeral_of, ones_in};
 use read_pieces::{field, field_count};
 use rules::{Head, Refusal, StateNumber};
 
@@ -40,11 +40,9 @@ pub fn vector_line(h: Head, done: usize, l: &[u8]) -> Result<u64, Refusal>
     if !is_marked(l, b"IN") {
         return Err(Refusal::BadLine);
     }
-    let inputs = places_in(field(l, 1), rules::MOST_INPUTS, h.inputs, b'0', b'1', b'1').ok_or(
-        Refusal::BadLine,
-    )?;
+    let inputs = ones_in(field(l, 1), rules::MOST_INPUTS, h.inputs).ok_or(Refusal::BadLine)?;
     if rules::MOST_STEPS <= done {
         return Err(Refusal::Limit);
     }
-    Ok(inputs.second)
+    Ok(inputs)
 }

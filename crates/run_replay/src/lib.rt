@@ -2,7 +2,7 @@
 // and the lines that they give are added to a part.
 #![tactic(auto)]
 
-ghost use Rattle.std.specs.Prelude.{◌≡◌};
+ghost use Rattle.std.specs.Prelude.{◌≡◌, length};
 ghost use Rattle.rules.specs.Text.{lines_of};
 ghost use Rattle.run_replay.specs.Moves.{machines_of, moved_by};
 ghost use Rattle.run_replay.specs.Places.{ends_at, ran_from, ran_first, ran_by, course_of, ran_on};
@@ -21,11 +21,19 @@ pub struct Machines {
     pub terms: Terms,
 }
 
+// Both machines as the functions below borrow them, with no more bits than there can be.
+#[derive(Clone, Copy)]
+struct Both<'a> {
+    listing: &'a Listing,
+    terms: &'a Terms,
+    bits: &'a [u64],
+}
+
 // A place in a run: before its first line; behind `SS` and so many steps, at a state and a code; or behind its end.
 #[derive(Clone, Copy)]
 pub enum Place {
     First,
-    Behind(u32, usize, u64),
+    Behind { done: u32, state: usize, code: u64 },
     Over,
 }
 
@@ -61,14 +69,15 @@ pub fn machines_of(t: Listing, width: usize, bits: [u64; rules::MOST_BITS]) -> M
 }
 
 // A step of both machines, from the state s and from a code.
-fn step_both(t: Listing, terms: Terms, width: usize, x: u64, s: usize, code: u64) -> Moved
-    ensures { result ≡ moved_by t terms width x s code }
+fn step_both(m: Both, x: u64, s: usize, code: u64) -> Moved
+    ensures { result ≡ moved_by m.entry.listing.now m.entry.terms.now (length m.entry.bits.now) x s code }
 {
-    let told = run_symbolic::told_at(t, x, s);
+    let told = run_symbolic::told_at(*m.listing, x, s);
     let next = told.next;
     let state = sets::lowest(next);
     let outputs = run_symbolic::outputs_told(told);
-    let after = run_encoded::code_after(terms, t.head.inputs, width, x, code);
+    let inputs = m.listing.head.inputs;
+    let after = run_encoded::code_after(*m.terms, inputs, m.bits.len(), x, code);
     Moved {
         next,
         state,
@@ -92,36 +101,35 @@ fn add_end(out: &mut [u8], part: Part, refusal: Refusal, line: usize) -> Ran
 fn add_steps(
     out: &mut [u8],
     part: Part,
-    t: Listing,
-    terms: Terms,
-    width: usize,
+    m: Both,
     begun: u32,
     start: usize,
     first: u64,
     run: &[u8],
 ) -> Ran
-    ensures { (result, out.new) ≡ ran_on (ran_from t terms width begun start first (lines_of run.now)) (part, out.old) }
+    ensures { (result, out.new) ≡ ran_on (ran_from m.entry.listing.now m.entry.terms.now (length m.entry.bits.now) begun start first (lines_of run.now)) (part, out.old) }
 {
-    let outputs = t.head.outputs;
+    let head = m.listing.head;
+    let width = m.bits.len();
     let mut code = first;
-    let mut s = start;
+    let mut state = start;
     let mut to = part;
     let mut done = begun;
     let mut at: usize = 0;
     let mut end = cut(run, 0, b'\n');
     while end < run.len() {
-        let got = run_lines::vector_line(t.head, done as usize, &run[at..end]);
+        let got = run_lines::vector_line(head, done as usize, &run[at..end]);
         let Ok(x) = got else {
             let refusal = got.err().unwrap_or(Refusal::BadLine);
             return add_end(out, to, refusal, done as usize + 2);
         };
-        let m = step_both(t, terms, width, x, s, code);
-        if m.next == 0 {
+        let moved = step_both(m, x, state, code);
+        if moved.next == 0 {
             return add_end(out, to, Refusal::NoNext, done as usize + 2);
         }
-        s = m.state;
-        code = m.code;
-        to = run_print::add_step(out, to, s, width, code, m.outputs, outputs);
+        state = moved.state;
+        code = moved.code;
+        to = run_print::add_step(out, to, state, width, code, moved.outputs, head.outputs);
         done += 1;
         at = end + 1;
         end = cut(run, at, b'\n');
@@ -129,46 +137,35 @@ fn add_steps(
     if at < end {
         return add_end(out, to, Refusal::BadLine, done as usize + 2);
     }
-    let place = Place::Behind(done, s, code);
+    let place = Place::Behind { done, state, code };
     Ran { part: to, place }
 }
 
-// The lines of a run from its first on, by the bits of a code.
-fn add_first(out: &mut [u8], part: Part, t: Listing, terms: Terms, bits: &[u64], run: &[u8]) -> Ran
-    ensures { (result, out.new) ≡ ran_on (ran_first t terms bits.now (lines_of run.now)) (part, out.old) }
+// The lines of a run from its first on.
+fn add_first(out: &mut [u8], part: Part, m: Both, run: &[u8]) -> Ran
+    ensures { (result, out.new) ≡ ran_on (ran_first m.entry.listing.now m.entry.terms.now m.entry.bits.now (lines_of run.now)) (part, out.old) }
 {
     let end = cut(run, 0, b'\n');
     if run.len() <= end {
         return add_end(out, part, Refusal::BadLine, 1);
     }
-    let got = run_lines::start_line(t.head, &run[0..end]);
+    let got = run_lines::start_line(m.listing.head, &run[0..end]);
     let Ok(s) = got else {
-        let refusal = got.err().unwrap_or(Refusal::BadLine);
-        return add_end(out, part, refusal, 1);
+        return add_end(out, part, got.err().unwrap_or(Refusal::BadLine), 1);
     };
     let start = s.0;
-    let code = run_encoded::code_of(bits, start);
+    let code = run_encoded::code_of(m.bits, start);
     let at = end + 1;
-    add_steps(out, part, t, terms, bits.len(), 0, start, code, &run[at..])
+    add_steps(out, part, m, 0, start, code, &run[at..])
 }
 
-// A piece of a run, from a place in it on, by the bits of a code.
-fn add_from(
-    out: &mut [u8],
-    part: Part,
-    t: Listing,
-    terms: Terms,
-    bits: &[u64],
-    place: Place,
-    run: &[u8],
-) -> Ran
-    ensures { (result, out.new) ≡ ran_on (ran_by t terms bits.now place (lines_of run.now)) (part, out.old) }
+// A piece of a run, from a place in it on.
+fn add_from(out: &mut [u8], part: Part, m: Both, place: Place, run: &[u8]) -> Ran
+    ensures { (result, out.new) ≡ ran_on (ran_by m.entry.listing.now m.entry.terms.now m.entry.bits.now place (lines_of run.now)) (part, out.old) }
 {
     match place {
-        Place::First => add_first(out, part, t, terms, bits, run),
-        Place::Behind(done, s, code) => {
-            add_steps(out, part, t, terms, bits.len(), done, s, code, run)
-        }
+        Place::First => add_first(out, part, m, run),
+        Place::Behind { done, state, code } => add_steps(out, part, m, done, state, code, run),
         Place::Over => Ran {
             part,
             place: Place::Over,
@@ -182,6 +179,10 @@ pub fn add_piece(out: &mut [u8], part: Part, m: Machines, place: Place, run: &[u
     ensures { (result, out.new) ≡ ran_on (course_of m place run.now) (part, out.old) }
 {
     let w = sets::least(m.width, rules::MOST_BITS);
-    let bits = m.bits;
-    add_from(out, part, m.listing, m.terms, &bits[..w], place, run)
+    let both = Both {
+        listing: &m.listing,
+        terms: &m.terms,
+        bits: &m.bits[..w],
+    };
+    add_from(out, part, both, place, run)
 }

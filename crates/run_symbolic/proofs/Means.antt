@@ -1,7 +1,7 @@
 -- What is told is what the listing means: the next state, and each output.
-use mathlib.Core.Path.{◌≡◌, refl, ap, ap₂, ◌∙◌}
+use mathlib.Core.Path.{◌≡◌, refl, ap, ◌∙◌}
 use mathlib.Core.Bool.{Bool, true, false, ◌&&◌, ◌||◌, not, cond}
-use mathlib.Core.List.{List, [], ◌∷◌, map}
+use mathlib.Core.List.{List, [], ◌∷◌}
 use Prim.Native.Nat.{ℕ, zero, suc, ◌+◌, ◌%◌, ◌<◌, min, max}
 use native.Mathlib.Omega.{arith}
 use lib.Dec.{eqb}
@@ -14,6 +14,7 @@ use Rattle.rules.specs.Listing.{all_rows, some}
 use Rattle.rules.specs.Cover.{says_one, says_dash, fires}
 use Rattle.rules.specs.Meaning.{on, free, off, output_means, named_by, next_means}
 use Rattle.rules.specs.Replay.{output_byte, outputs_text}
+use Rattle.rules.proofs.LinesAside.{map-like}
 use Rattle.rules.specs.declared.Head.{Head}
 use Rattle.rules.specs.declared.Row.{Row}
 use Rattle.rules.specs.declared.Listing.{Listing}
@@ -112,10 +113,6 @@ told-output t x s j =
     dashes = told-has t.head x s (λ a. a.dashes) (λ r. r.outputs.dashes) (λ a r. refl) j untold (all_rows t) ∙ ap (λ (z : ℕ). max z (digit d)) (has-none j) ∙ omega arith
 
 -- all outputs
-map-like : (f g : ℕ → ℕ) (l : List ℕ) → ((j : ℕ) → f j ≡ g j) → map f l ≡ map g l
-map-like f g [] e = refl
-map-like f g (j ∷ l) e = ap₂ (λ (d : ℕ) (ds : List ℕ). d ∷ ds) (e j) (map-like f g l e)
-
 pub told-outputs : (t : Listing) (x s : ℕ) → pattern_text (outputs_told (told_by t.head x s untold (all_rows t))) t.head.outputs ≡ outputs_text t x s
 unfolding pattern_text outputs_text
 told-outputs t x s = map-like _ _ (states_from 0 t.head.outputs) (told-output t x s)

@@ -1,5 +1,5 @@
 -- The lines of rows: a row with the dashes that it keeps has the line of 02, a row that is left out has none, and rows behind a row have theirs behind its own.
-use mathlib.Core.Path.{◌≡◌, refl, ap, ap₂, ◌∙◌}
+use mathlib.Core.Path.{◌≡◌, refl, ap, ◌∙◌}
 use mathlib.Core.Bool.{Bool, true, false, cond}
 use mathlib.Core.List.{List, [], ◌∷◌, ◌++◌, map, map-append, append_assoc}
 use Prim.Native.Nat.{ℕ}
@@ -8,6 +8,7 @@ use Rattle.rules.specs.Text.{lf}
 use Rattle.rules.specs.Cover.{output_at, cover_row, is_left_out, printed_rows}
 use Rattle.rules.specs.declared.Head.{Head}
 use Rattle.rules.specs.declared.Row.{Row}
+use Rattle.rules.proofs.LinesAside.{map-like}
 use Rattle.rules.proofs.Printed.{printed-none, printed-out, printed-in, printed-append}
 use Rattle.write_faces.specs.Faces.{pattern_at, pattern_text, face_text, next_text, row_text}
 use Rattle.write_rows.specs.Rows.{kept_row}
@@ -15,10 +16,6 @@ use Rattle.write_rows.proofs.Kept.{kept_at}
 use Rattle.write_cover.specs.Covers.{printed_text, row_texts}
 
 -- ---- the line of 02
-
-map-like : {A B : Type 0} (f g : A → B) (xs : List A) → ((x : A) → f x ≡ g x) → map f xs ≡ map g xs
-map-like f g [] h = refl
-map-like f g (x ∷ xs) h = ap₂ ◌∷◌ (h x) (map-like f g xs h)
 
 pub kept-text : (h : Head) (bits : List ℕ) (rs : List Row) (r : Row) → row_text h bits (kept_row rs r) ≡ cover_row h bits rs r ++ (lf ∷ [])
 unfolding row_text pattern_text pattern_at face_text next_text cover_row kept_row

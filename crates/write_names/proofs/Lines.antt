@@ -10,7 +10,8 @@ use Rattle.rules.specs.Text.{bytes, space, lf, decimal}
 use Rattle.rules.specs.Report.{joined_lines}
 use Rattle.rules.specs.NamesText.{name_line, name_lines_from, names_lines, names_text}
 use Rattle.rules.specs.declared.StateNumber.{StateNumber}
-use Rattle.write_pen.proofs.Growing.{take-one, joined-append, joined-one}
+use Rattle.std.proofs.lemmas.List.{take_more}
+use Rattle.write_pen.proofs.Growing.{joined-append, joined-one}
 
 -- the lines of the first i names
 abbrev pub lines_to : List (List ℕ) → ℕ → List ℕ
@@ -32,7 +33,7 @@ module _ (names : List (List ℕ)) where
   lines-one i {name} h e =
       let long : 0 + length (take i names) ≡ i = omega (arith, length-take i names) in
       sym
-      (ap (λ (ns : List (List ℕ)). joined_lines (name_lines_from 0 ns)) (take-one names i [] h)
+      (ap (λ (ns : List (List ℕ)). joined_lines (name_lines_from 0 ns)) (take_more names i [] h)
       ∙ ap joined_lines (lines_more 0 (take i names) (get_or names i []))
       ∙ joined-append (name_lines_from 0 (take i names)) (name_line (record { 0 = 0 + length (take i names) }) (get_or names i []) ∷ [])
       ∙ rw (joined-one (name_line (record { 0 = 0 + length (take i names) }) (get_or names i [])), long, ← e))

@@ -26,8 +26,9 @@ fn put_states(out: &mut [u8], text: &[u8], names: Names) -> usize
 {
     let n = sets::least(names.count, rules::MOST_STATES);
     let mut to = 0;
-    for (i, &p) in names.places[..n].iter().enumerate() {
-        to = put_line(out, to, StateNumber(i), read_names::bytes_of(text, p));
+    for i in 0..n {
+        let name = read_names::bytes_of(text, names.places[i]);
+        to = put_line(out, to, StateNumber(i), name);
     }
     to
 }

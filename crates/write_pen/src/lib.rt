@@ -1,5 +1,6 @@
 // Writers: each writes a text into a lent buffer from `at` on, and answers the place behind it. What falls behind the buffer's end is lost,
-// so a run on a small buffer tells the length. A place past the last that a number can say is the last one.
+// so a run on a small buffer tells the length. A place past the last that a number can say is the last one. The buffer and the place are handed on by
+// themselves, since `Wrote`, which every writer promises, speaks of the two.
 #![tactic(auto)]
 
 ghost use Rattle.std.specs.Prelude.{◌≡◌, [], ◌∷◌, ◌++◌, ◌+◌};

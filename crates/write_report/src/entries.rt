@@ -15,24 +15,26 @@ fn put_code(out: &mut [u8], at: usize, bits: &[u64], s: StateNumber) -> usize
     write_pen::put_values(out, at, bits, sets::flipped(0, s.0), b'1')
 }
 
+// What a report counts: the bits, the requirements, those that no bit meets, and the passes and looks that it took.
+#[derive(Clone, Copy)]
+pub struct Counts {
+    pub bits: usize,
+    pub asked: usize,
+    pub unmet: usize,
+    pub passes: u64,
+    pub looks: u64,
+}
+
 // `CT bits asked unmet passes looks`
-pub fn put_count_line(
-    out: &mut [u8],
-    at: usize,
-    bits: usize,
-    asked: usize,
-    unmet: usize,
-    passes: u64,
-    looks: u64,
-) -> usize
-    ensures { Wrote out.old at (count_line bits asked unmet passes looks) result out.new }
+pub fn put_count_line(out: &mut [u8], at: usize, c: Counts) -> usize
+    ensures { Wrote out.old at (count_line c.bits c.asked c.unmet c.passes c.looks) result out.new }
 {
     let p = write_pen::put_bytes(out, at, b"CT ");
-    let q = write_pen::put_field(out, p, bits as u64, b' ');
-    let r = write_pen::put_field(out, q, asked as u64, b' ');
-    let s = write_pen::put_field(out, r, unmet as u64, b' ');
-    let t = write_pen::put_field(out, s, passes, b' ');
-    write_pen::put_field(out, t, looks, b'\n')
+    let q = write_pen::put_field(out, p, c.bits as u64, b' ');
+    let r = write_pen::put_field(out, q, c.asked as u64, b' ');
+    let s = write_pen::put_field(out, r, c.unmet as u64, b' ');
+    let t = write_pen::put_field(out, s, c.passes, b' ');
+    write_pen::put_field(out, t, c.looks, b'\n')
 }
 
 // `SC state code`

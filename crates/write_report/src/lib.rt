@@ -15,6 +15,7 @@ ghost use Rattle.write_report.specs.declared.Listed.{Listed};
 ghost use Rattle.write_report.specs.Report.{state_lines, line_for, lines_of, most_words, encoded_lines};
 
 use code_walking::Requirements;
+use entries::Counts;
 use rules::{BitNumber, Encoding, RequirementNumber, StateNumber};
 use write_parts::Part;
 
@@ -36,19 +37,11 @@ struct Walked {
 }
 
 // The line of the counts.
-fn add_counts(
-    out: &mut [u8],
-    part: Part,
-    bits: usize,
-    asked: usize,
-    unmet: usize,
-    passes: u64,
-    looks: u64,
-) -> Part
-    ensures { (result, out.new) ≡ added (count_line bits asked unmet passes looks) (part, out.old) }
+fn add_counts(out: &mut [u8], part: Part, c: Counts) -> Part
+    ensures { (result, out.new) ≡ added (count_line c.bits c.asked c.unmet c.passes c.looks) (part, out.old) }
 {
     let mut line = [0u8; 108];
-    let end = entries::put_count_line(&mut line, 0, bits, asked, unmet, passes, looks);
+    let end = entries::put_count_line(&mut line, 0, c);
     write_parts::add_line(out, part, &line[..end])
 }
 
@@ -163,7 +156,14 @@ pub fn add_report(out: &mut [u8], part: Part, n: usize, e: Encoding, fs: &[u64])
     let width = sets::least(e.width, rules::MOST_BITS);
     let end = sets::least(fs.len(), code_drawing::ALL_WORDS);
     let bits = e.bits;
-    let p = add_counts(out, part, e.width, e.asked, e.unmet, e.passes, e.looks);
+    let counts = Counts {
+        bits: e.width,
+        asked: e.asked,
+        unmet: e.unmet,
+        passes: e.passes,
+        looks: e.looks,
+    };
+    let p = add_counts(out, part, counts);
     let q = add_states(out, p, &bits[..width], n);
     let r = add_listed(out, q, &bits[..width], &fs[..end], Listed::Met);
     let s = add_unmet(out, r, &bits[..width], &fs[..end]);

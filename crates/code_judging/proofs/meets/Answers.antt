@@ -6,9 +6,9 @@ use Rattle.code_judging.proofs.meets.Goals as goal
 pub returns-then-parts : goal.returns-then-parts
 returns-then-parts c =
     let s = c.args in
-    c.if-parts.true ∙ sym (met-one-way 64 s.b s.first s.second (sym c.parts.ensures ∙ c.if-parts.true))
+    c.if-parts.true ∙ sym (met-one-way 64 s.b s.r.first s.r.second (sym c.parts.ensures ∙ c.if-parts.true))
 
 pub returns-else-parts : goal.returns-else-parts
 returns-else-parts c =
     let s = c.args in
-    c.parts-else-parts.ensures ∙ sym (met-other-way 64 s.b s.first s.second (sym c.parts.ensures ∙ c.if-parts.false))
+    c.parts-else-parts.ensures ∙ sym (met-other-way 64 s.b s.r.first s.r.second (sym c.parts.ensures ∙ c.if-parts.false))

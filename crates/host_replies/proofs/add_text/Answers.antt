@@ -3,7 +3,7 @@ use Rattle.std.specs.Prelude.{Result}
 use mathlib.Core.Path.{sym, ap, ◌∙◌}
 use Rattle.rules.specs.declared.Refused.{Refused}
 use Rattle.write_parts.specs.Parts.{added_all}
-use Rattle.write_parts.proofs.Adding.{all_none}
+use Rattle.write_parts.proofs.Adding.{Lent, all_none}
 use Rattle.host_replies.specs.Ready.{lines_of}
 use Rattle.host_replies.specs.declared.Ready.{Ready}
 use Rattle.host_replies.proofs.add_text.Goals as goal
@@ -11,7 +11,7 @@ use Rattle.host_replies.proofs.add_text.Goals as goal
 pub returns-in_default : goal.returns-in_default
 unfolding lines_of
 returns-in_default c =
-    let at = (c.args.part, c.args.out.now) in
+    let at : Lent = (c.args.part, c.args.out.now) in
     sym (ap (λ (d : Result Ready Refused). added_all (lines_of d) at) c.in_default.is ∙ all_none at)
 
 pub returns : goal.returns

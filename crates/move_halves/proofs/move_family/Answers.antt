@@ -16,7 +16,8 @@ returns-then-member c =
     let e : has a.all a.s ≡ 1 = eqb-true (has a.all a.s) 1 (sym c.member.ensures ∙ c.if-member.true) in
     let l : a.s < 64 = member_below a.all a.s c.ranges.all.fits e in
     let own = c.flipped-own.ensures.0 l ∙ xor_zero_l (only a.s) in
-    by-common a.all a.flip a.out a.b a.s a.t.now _ _ (c.without_of-others.ensures ∙ ap (without a.all) own) c.side_of-x.ensures _ _ _ _ e c.member-then-member.ensures c.without_of-o.ensures c.move_in.ensures
+    let v = c.turned.ensures in
+    by-common a.all a.flip a.out a.b a.s a.t.now _ _ (c.without_of-others.ensures ∙ ap (without a.all) own) c.side_of-x.ensures _ _ _ _ e c.member-then-member.ensures c.without_of-o.ensures (rw (v.0, v.1, v.2, v.3) at c.move_in.ensures)
 
 pub returns-then-not-member : goal.returns-then-not-member
 returns-then-not-member c =

@@ -1,34 +1,32 @@
 -- `read_kiss::read_lines` meets its contract: the lines from number k on, behind those that made d, say what all the lines say.
-use Rattle.std.specs.Prelude.{Result, Option, Ok, Some}
+use Rattle.std.specs.Prelude.{Result, Option, Ok, Some, Err}
 use Rattle.rules.specs.declared.Refusal.{Refusal}
 use mathlib.Core.List.{List}
-use Prim.Native.Nat.{ℕ}
-use lib.ListN.{length-take}
+use Prim.Native.Nat.{ℕ, ◌<◌, ◌-◌, ◌+◌}
+use lib.ListN.{length-take, length, drop}
 use Rattle.rules.specs.declared.KissHeads.{KissHeads}
 use Rattle.read_names.specs.declared.Piece.{Piece}
 use Rattle.read_kiss_lines.specs.declared.row.KissRow.{KissRow}
-use Rattle.read_kiss_rows.specs.Drafts.{more_of}
+use Rattle.read_kiss_rows.specs.Drafts.{more_of, draft_in, more_in}
 use Rattle.read_kiss.proofs.Fields.{Inside}
-use mathlib.Core.Path.{subst}
+use mathlib.Core.Path.{subst, ◌≡◌, sym, ap, ◌∙◌}
 use Rattle.rules.specs.Text.{lines_of}
 use Rattle.rules.specs.Kiss.{no_draft, with_line, Draft as Drafted, KissStep}
 use Rattle.read_pieces.proofs.Laws.{part, cut_of}
-use Rattle.read_kiss_rows.specs.Drafts.{draft_in, more_in}
 use Rattle.read_kiss_rows.specs.declared.Draft.{Draft}
 use Rattle.read_kiss_rows.proofs.Meant.{Room, RoomIn, more-means}
 use Rattle.read_kiss.specs.declared.says.Said.{Said}
 use Rattle.read_kiss.specs.Says.{step_of, moved_row, reset_to}
-use Rattle.read_kiss.specs.Walks.{walked, Walks}
-use Rattle.rules.specs.declared.Verdict.{Verdict}
+use Rattle.read_kiss.specs.Walks.{Walked, ended_with, walked}
+use Rattle.rules.specs.Refusals.{refused}
 use Rattle.read_kiss_rows.proofs.NamesMeant.{names-count}
 use Rattle.read_kiss.proofs.Endings.{end_is}
 use Rattle.read_kiss.proofs.Saying.{says-within, says-counts}
 use Rattle.read_kiss.proofs.Steps.{behind, read-line, read-last, none_yet, none-room, heads_done, reset-done, reset-room, row_done, row_keeps, more-some, more-none, Keeps}
-use Prim.Native.Nat.{◌<◌, ◌-◌, ◌+◌}
-use mathlib.Core.Path.{◌≡◌, sym, ap, ◌∙◌}
 use native.Mathlib.Omega.{arith}
-use lib.ListN.{length, drop}
 use Rattle.read_kiss.proofs.read_lines.Goals.{After-line_said-said, in-Heads, in-Reset, in-Row+in-Some}
+use Rattle.std.proofs.lemmas.Result.{err_from_is_err_and}
+use Rattle.rules.specs.declared.Refused.{Refused}
 use Rattle.read_kiss.proofs.read_lines.Goals as goal
 
 -- a line that says x: what stands behind it decides
@@ -41,7 +39,7 @@ all_lines c e =
     sym (read-line c.args.s.now l.d l.invariant.3 l.k l.at l.end l.invariant.0 (omega arith) (sym e ∙ c.line_said-said.ensures)) ∙ l.invariant.2
 
 -- so far it has come
-walks : (s : List ℕ) (d : Draft) → Room d → {v : Verdict} {w : Verdict × Drafted} → ◌≡◌ {A = Verdict × Drafted} (v, draft_in s d) w → Walks s v d w
+walks : (s : List ℕ) (d : Draft) → Room d → {w : Result Drafted Refused} → Ok (draft_in s d) ≡ w → Walked s d w
 walks s d r e = record { same = e; count = names-count s d.names r.names; few = r.names.few }
 
 -- the places that a line names fit
@@ -113,15 +111,22 @@ returns-in_default c =
     let l = c.loop-end in
     let s = c.args.s.now in
     let why : c.unwrap_or.result ≡ c.in_default.field-0 = c.unwrap_or.ensures ∙ rw (c.err.ensures.value, c.in_default.is) in
-    walks s l.d l.invariant.3
-    (ap (λ (r : Refusal). (Verdict.Refused r l.k, draft_in s l.d)) why ∙ all_lines (goal.at.returns-in_default c).After-line_said-said c.in_default.is)
+    ap Err c.at.ensures ∙ ap (λ (r : Refusal). refused r l.k) why ∙ all_lines (goal.at.returns-in_default c).After-line_said-said c.in_default.is
+
+pub returns-in_err-after_end-in-End : goal.returns-in_err-after_end-in-End
+returns-in_err-after_end-in-End c =
+    let l = c.loop-end in
+    let s = c.args.s.now in
+    let p = err_from_is_err_and c.from_residual.result c.from_residual.ensures.1 in
+    rw (p.1, p.2)
+    (ap (ended_with (draft_in s l.d)) (c.in_err-after_end-in-End.ensures ∙ end_is l.k s (l.end + 1)) ∙ all_lines (goal.at.returns-in_err-after_end-in-End c).After-line_said-said (c.in-Ok.is ∙ ap Ok c.in-End.is))
 
 pub returns-in-End : goal.returns-in-End
 returns-in-End c =
     let l = c.loop-end in
     let s = c.args.s.now in
     walks s l.d l.invariant.3
-    (ap (λ (v : Verdict). (v, draft_in s l.d)) (c.after_end-verdict.ensures ∙ end_is l.k s (l.end + 1)) ∙ all_lines (goal.at.returns-in-End c).After-line_said-said (c.in-Ok.is ∙ ap Ok c.in-End.is))
+    (ap (ended_with (draft_in s l.d)) (c.in_ok-after_end-in-End.ensures ∙ end_is l.k s (l.end + 1)) ∙ all_lines (goal.at.returns-in-End c).After-line_said-said (c.in-Ok.is ∙ ap Ok c.in-End.is))
 
 pub with_reset-d-requires : goal.with_reset-d-requires
 with_reset-d-requires c = places-fit (goal.at.with_reset-d-requires c).After-line_said-said _ (says-within _ _ _ _ (sym (c.in-Ok.is ∙ ap Ok c.in-Reset.is) ∙ c.line_said-said.ensures))
@@ -140,8 +145,9 @@ returns-in_default-row_added c =
     let e = c.in-Ok.is ∙ ap Ok c.in-Row.is in
     let w = says-within _ _ _ _ (sym e ∙ c.line_said-said.ensures) in
     let full = row_done s l.at l.end l.k l.d l.invariant.3 _ w.0 w.1 ∙ ap (more_in s) (sym c.row_added.ensures ∙ c.in_default-row_added.is) ∙ more-none s in
-    walks s l.d l.invariant.3
-    (ap (λ (y : KissStep). behind y l.k (draft_in s l.d) (lines_of (drop (l.end + 1) s))) (sym full) ∙ all_lines (goal.at.returns-in_default-row_added c).After-line_said-said e)
+    ap Err c.at-in_default-row_added.ensures
+    ∙ ap (λ (y : KissStep). behind y l.k (draft_in s l.d) (lines_of (drop (l.end + 1) s))) (sym full)
+    ∙ all_lines (goal.at.returns-in_default-row_added c).After-line_said-said e
 
 pub loop-end-preserved : goal.loop-end-preserved
 loop-end-preserved c =
@@ -159,5 +165,4 @@ pub returns : goal.returns
 returns c =
     let l = c.loop-end in
     let s = c.args.s.now in
-    walks s l.d l.invariant.3
-    (ap (λ (v : Verdict). (v, draft_in s l.d)) c.break_off-verdict.ensures ∙ sym (read-last s l.d l.k l.at l.end l.invariant.0 (omega arith)) ∙ l.invariant.2)
+    ap Err c.break_off.ensures ∙ sym (read-last s l.d l.k l.at l.end l.invariant.0 (omega arith)) ∙ l.invariant.2

@@ -1,20 +1,36 @@
 -- `read_kiss::read_named` meets its contract: too long, or what the lines say.
 use mathlib.Core.Path.{sym, ap, ◌∙◌}
-use Rattle.rules.specs.Listing.{refused}
-use Rattle.rules.specs.declared.Reading.{Reading}
+use Rattle.std.proofs.lemmas.Result.{err_from_is_err_and}
+use Rattle.read_kiss.specs.Walks.{verdict_of}
 use Rattle.read_kiss.proofs.Endings.{too_long, short}
-use Rattle.read_kiss.proofs.Walked.{never, walk-made, walk-names}
+use Rattle.read_kiss.proofs.Walked.{walk-refused, walk-made, walk-names}
+use Rattle.rules.specs.Listing.{Reading}
+use Rattle.std.specs.Prelude.{Err}
 use Rattle.read_kiss.proofs.read_named.Goals as goal
 
 pub returns-then-bytes-gt-MOST_BYTES : goal.returns-then-bytes-gt-MOST_BYTES
-unfolding refused
-returns-then-bytes-gt-MOST_BYTES c = record { verdict = sym (ap (λ (r : Reading). r.verdict) (too_long _ c.if-bytes-gt-MOST_BYTES.true)); names = λ e. never _ _ e }
+returns-then-bytes-gt-MOST_BYTES c = record { verdict = ap Err c.from.ensures ∙ sym (ap (λ (r : Reading). verdict_of r) (too_long _ c.if-bytes-gt-MOST_BYTES.true)); names = tt }
+
+pub returns-in_err-d : goal.returns-in_err-d
+returns-in_err-d c =
+    let p = err_from_is_err_and c.from_residual.result c.from_residual.ensures.1 in
+    rw (p.1, p.2) (record { verdict = ap (λ (r : Reading). verdict_of r) (walk-refused _ c.in_err-d.ensures ∙ sym (short _ c.if-bytes-gt-MOST_BYTES.false)); names = tt })
+
+pub made_of-requires : goal.made_of-requires
+made_of-requires c = c.in_ok-d.ensures.few
+
+pub returns-in_err-made_of : goal.returns-in_err-made_of
+returns-in_err-made_of c =
+    let p = err_from_is_err_and c.from_residual-in_err-made_of.result c.from_residual-in_err-made_of.ensures.1 in
+    rw (p.1, p.2)
+    (record {
+      verdict = ap (λ (r : Reading). verdict_of r) (c.in_err-made_of.ensures ∙ walk-made _ _ c.in_ok-d.ensures ∙ sym (short _ c.if-bytes-gt-MOST_BYTES.false));
+      names = tt;
+    })
 
 pub returns : goal.returns
 returns c =
-    let w = c.read_lines-walk.ensures in
-    let made = ap (λ (r : Reading). r.verdict) c.made_of-read.ensures in
     record {
-      verdict = made ∙ ap (λ (r : Reading). r.verdict) (walk-made _ _ _ w ∙ sym (short _ c.if-bytes-gt-MOST_BYTES.false));
-      names = λ e. walk-names _ _ _ w (sym made ∙ e);
+      verdict = ap (λ (r : Reading). verdict_of r) (c.in_ok-made_of.ensures ∙ walk-made _ _ c.in_ok-d.ensures ∙ sym (short _ c.if-bytes-gt-MOST_BYTES.false));
+      names = walk-names _ _ c.in_ok-d.ensures;
     }

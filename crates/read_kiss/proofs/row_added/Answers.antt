@@ -3,8 +3,7 @@ use Rattle.read_kiss.specs.Says.{moved_row}
 use Rattle.read_names.specs.declared.Piece.{Piece}
 use Rattle.rules.specs.Kiss.{with_line}
 use Rattle.read_kiss_rows.specs.Drafts.{more_of}
-use mathlib.Core.Path.{ap₂}
-use mathlib.Core.Path.{◌∙◌}
+use mathlib.Core.Path.{ap₂, ◌∙◌}
 use Rattle.read_kiss.proofs.row_added.Goals as goal
 
 pub returns : goal.returns

@@ -1,6 +1,6 @@
 -- A `PT` line: what stands behind its mark, its fields at known places or refused, and then the row.
 use Rattle.rules.specs.declared.Refusal.{Refusal}
-use Rattle.std.specs.Prelude.{Result, Err, Some, None}
+use Rattle.std.specs.Prelude.{Result, Err}
 use mathlib.Core.Path.{◌≡◌, refl, ◌∙◌}
 use mathlib.Core.Bool.{Bool, true, false, ◌&&◌, cond}
 use mathlib.Core.List.{List, [], ◌∷◌}
@@ -16,19 +16,13 @@ use Rattle.rules.specs.Lines.{row_fits, outputs_fit, row_of, row_checked, moore_
 use Rattle.rules.specs.declared.Head.{Head}
 use Rattle.rules.specs.declared.Refusal.TheVariants.{BadLine}
 use Rattle.rules.specs.declared.Row.{Row}
-use Rattle.read_fields.specs.Fields.{places_in}
-use Rattle.read_fields.proofs.Sets.{places-sized, pattern-sized}
+use Rattle.read_fields.proofs.Sets.{pattern-sized, ones-sized}
 use Rattle.read_pieces.specs.Pieces.{stands_at}
 use Rattle.read_pieces.proofs.Laws.{Cut}
 use Rattle.read_lines.specs.Rows.{row_read, pieces_fit, outputs_in, row_pieces, row_rest, row_end}
 use Rattle.read_lines.proofs.Fields.{field-here, field-last}
 
 -- ---- the fields
-
--- a group or a next state
-pub states-sized : (k : ℕ) (f : List ℕ)
-    → places_in most_states k nought one one f ≡ cond (sized most_states k nought one one f) (Some (record { second = set_of one f; third = set_of one f })) None
-states-sized k f = places-sized nought one one f most_states k (λ l. omega arith) refl
 
 -- ---- pieces in order
 
@@ -230,6 +224,6 @@ few-next s e = lt-leb 2 s (omega (arith, leb-true s 1 e))
 pub many-next : (s : ℕ) → leb s 1 ≡ false → leb 2 s ≡ true
 many-next s e = le-leb 2 s (leb-false s 1 e)
 
-pub ruleset read = (pattern-sized, states-sized)
+pub ruleset read = (pattern-sized, ones-sized)
 
 pub ruleset ended = (pattern-sized, end-parts)

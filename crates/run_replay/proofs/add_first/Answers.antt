@@ -11,15 +11,15 @@ returns-then-run-end c =
     let a = c.args in
     let cut = cut_of _ _ 0 (omega arith) c.cut-end.ensures in
     c.add_end.ensures
-    ∙ ap (λ (g : Course). ran_on g (a.part, a.out.now)) (sym (whole-missing a.t a.terms a.bits.now a.run.now _ cut c.if-run-end.true))
+    ∙ ap (λ (g : Course). ran_on g (a.part, a.out.now)) (sym (whole-missing a.m.listing.now a.m.terms.now a.m.bits.now a.run.now _ cut c.if-run-end.true))
 
 pub returns-in_default : goal.returns-in_default
 returns-in_default c =
     let a = c.args in
     let cut = cut_of _ _ 0 (omega arith) c.cut-end.ensures in
-    let e = reason-is _ c.in_default.is c.err.ensures.value c.unwrap_or-refusal.ensures in
+    let e = reason-is _ c.in_default.is c.err.ensures.value c.unwrap_or.ensures in
     c.add_end-in_default.ensures
-    ∙ ap (λ (g : Course). ran_on g (a.part, a.out.now)) (sym (whole-refused a.t a.terms a.bits.now a.run.now _ cut c.if-run-end.false (sym c.start_line-got.ensures ∙ e)))
+    ∙ ap (λ (g : Course). ran_on g (a.part, a.out.now)) (sym (whole-refused a.m.listing.now a.m.terms.now a.m.bits.now a.run.now _ cut c.if-run-end.false (sym c.start_line-got.ensures ∙ e)))
 
 pub returns : goal.returns
 returns c =
@@ -27,4 +27,4 @@ returns c =
     let cut = cut_of _ _ 0 (omega arith) c.cut-end.ensures in
     c.add_steps.ensures
     ∙ ap (λ (g : Course). ran_on g (a.part, a.out.now))
-    (sym (whole-read a.t a.terms a.bits.now a.run.now _ cut c.if-run-end.false (sym c.start_line-got.ensures ∙ c.in-Ok.is) c.code_of-code.ensures))
+    (sym (whole-read a.m.listing.now a.m.terms.now a.m.bits.now a.run.now _ cut c.if-run-end.false (sym c.start_line-got.ensures ∙ c.in-Ok.is) c.code_of-code.ensures))

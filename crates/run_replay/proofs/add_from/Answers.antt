@@ -10,16 +10,16 @@ pub returns-in-First : goal.returns-in-First
 unfolding ran_by
 returns-in-First c =
     let a = c.args in
-    c.add_first.ensures ∙ sym (ap (λ (p : Place). ran_on (ran_by a.t a.terms a.bits.now p (lines_of a.run.now)) (a.part, a.out.now)) c.in-First.is)
+    c.add_first.ensures ∙ sym (ap (λ (p : Place). ran_on (ran_by a.m.listing.now a.m.terms.now a.m.bits.now p (lines_of a.run.now)) (a.part, a.out.now)) c.in-First.is)
 
 pub returns-in-Behind : goal.returns-in-Behind
 unfolding ran_by
 returns-in-Behind c =
     let a = c.args in
-    c.add_steps.ensures ∙ sym (ap (λ (p : Place). ran_on (ran_by a.t a.terms a.bits.now p (lines_of a.run.now)) (a.part, a.out.now)) c.in-Behind.is)
+    c.add_steps.ensures ∙ sym (ap (λ (p : Place). ran_on (ran_by a.m.listing.now a.m.terms.now a.m.bits.now p (lines_of a.run.now)) (a.part, a.out.now)) c.in-Behind.is)
 
 pub returns-in-Over : goal.returns-in-Over
 unfolding ran_by
 returns-in-Over c =
     let a = c.args in
-    none-on Place.Over (a.part, a.out.now) ∙ sym (ap (λ (p : Place). ran_on (ran_by a.t a.terms a.bits.now p (lines_of a.run.now)) (a.part, a.out.now)) c.in-Over.is)
+    none-on Place.Over (a.part, a.out.now) ∙ sym (ap (λ (p : Place). ran_on (ran_by a.m.listing.now a.m.terms.now a.m.bits.now p (lines_of a.run.now)) (a.part, a.out.now)) c.in-Over.is)

@@ -20,15 +20,15 @@ returns-in_default c =
     let e = reason-is _ c.in_default.is c.err.ensures.value c.unwrap_or-refusal.ensures in
     c.add_end.ensures
     ∙ ap (λ (g : Course). ran_on g (c.loop-end.to, c.loop-end.out))
-    (sym (cut-refused a.t a.terms a.width a.run.now c.loop-end.at c.loop-end.end c.loop-end.invariant.0 c.loop-end.done c.loop-end.s c.loop-end.code c.loop-end-test.true (sym c.vector_line-got.ensures ∙ e)))
+    (sym (cut-refused a.m.listing.now a.m.terms.now (length a.m.bits.now) a.run.now c.loop-end.at c.loop-end.end c.loop-end.invariant.0 c.loop-end.done c.loop-end.state c.loop-end.code c.loop-end-test.true (sym c.vector_line-got.ensures ∙ e)))
     ∙ c.loop-end.invariant.3
 
-pub returns-then-m-eq0 : goal.returns-then-m-eq0
-returns-then-m-eq0 c =
+pub returns-then-moved-eq0 : goal.returns-then-moved-eq0
+returns-then-moved-eq0 c =
     let a = c.args in
-    c.add_end-then-m-eq0.ensures
+    c.add_end-then-moved-eq0.ensures
     ∙ ap (λ (g : Course). ran_on g (c.loop-end.to, c.loop-end.out))
-    (sym (cut-ends a.t a.terms a.width a.run.now c.loop-end.at c.loop-end.end c.loop-end.invariant.0 c.loop-end.done c.loop-end.s c.loop-end.code c.loop-end-test.true (sym c.vector_line-got.ensures ∙ c.in-Ok.is) c.step_both-m.ensures c.if-m-eq0.true))
+    (sym (cut-ends a.m.listing.now a.m.terms.now (length a.m.bits.now) a.run.now c.loop-end.at c.loop-end.end c.loop-end.invariant.0 c.loop-end.done c.loop-end.state c.loop-end.code c.loop-end-test.true (sym c.vector_line-got.ensures ∙ c.in-Ok.is) c.step_both-moved.ensures c.if-moved-eq0.true))
     ∙ c.loop-end.invariant.3
 
 pub overflow_add-done-in-loop-end : goal.overflow_add-done-in-loop-end
@@ -44,9 +44,9 @@ loop-end-preserved c =
       cut_of _ _ (c.loop-end.end + 1) (omega (arith, more)) c.cut-end-in-loop-end.ensures,
       omega (arith, read-few _ _ _ e),
       ap (λ (p : Lent). length p.1) put ∙ all-length _ _ ∙ c.loop-end.invariant.2,
-      step-on a.t a.width _ _ (c.loop-end.to, c.loop-end.out) _ put
+      step-on a.m.listing.now (length a.m.bits.now) _ _ (c.loop-end.to, c.loop-end.out) _ put
           ∙ ap (λ (g : Course). ran_on g (c.loop-end.to, c.loop-end.out))
-          (sym (cut-steps a.t a.terms a.width a.run.now c.loop-end.at c.loop-end.end c.loop-end.invariant.0 c.loop-end.done c.loop-end.s c.loop-end.code more e c.step_both-m.ensures c.if-m-eq0.false))
+          (sym (cut-steps a.m.listing.now a.m.terms.now (length a.m.bits.now) a.run.now c.loop-end.at c.loop-end.end c.loop-end.invariant.0 c.loop-end.done c.loop-end.state c.loop-end.code more e c.step_both-moved.ensures c.if-moved-eq0.false))
           ∙ c.loop-end.invariant.3,
     )
 
@@ -55,13 +55,13 @@ returns-then-at-end c =
     let a = c.args in
     c.add_end-then-at-end.ensures
     ∙ ap (λ (g : Course). ran_on g (c.loop-end.to, c.loop-end.out))
-    (sym (cut-bad a.t a.terms a.width a.run.now c.loop-end.at c.loop-end.end c.loop-end.invariant.0 c.loop-end.done c.loop-end.s c.loop-end.code c.loop-end-test.false c.if-at-end.true))
+    (sym (cut-bad a.m.listing.now a.m.terms.now (length a.m.bits.now) a.run.now c.loop-end.at c.loop-end.end c.loop-end.invariant.0 c.loop-end.done c.loop-end.state c.loop-end.code c.loop-end-test.false c.if-at-end.true))
     ∙ c.loop-end.invariant.3
 
 pub returns : goal.returns
 returns c =
     let a = c.args in
-    none-on (Place.Behind c.loop-end.done c.loop-end.s c.loop-end.code) (c.loop-end.to, c.loop-end.out)
+    none-on (Place.Behind c.loop-end.done c.loop-end.state c.loop-end.code) (c.loop-end.to, c.loop-end.out)
     ∙ ap (λ (g : Course). ran_on g (c.loop-end.to, c.loop-end.out))
-    (sym (cut-over a.t a.terms a.width a.run.now c.loop-end.at c.loop-end.end c.loop-end.invariant.0 c.loop-end.done c.loop-end.s c.loop-end.code c.loop-end-test.false c.if-at-end.false))
+    (sym (cut-over a.m.listing.now a.m.terms.now (length a.m.bits.now) a.run.now c.loop-end.at c.loop-end.end c.loop-end.invariant.0 c.loop-end.done c.loop-end.state c.loop-end.code c.loop-end-test.false c.if-at-end.false))
     ∙ c.loop-end.invariant.3

@@ -12,7 +12,7 @@ use Rattle.run_replay.proofs.add_steps.Given as goal
 abbrev pub invariant-loop-end : goal.invariant-loop-end
 invariant-loop-end l =
     Cut lf l.run l.at l.end × (l.done < 2 ^ 32) × (length l.out ≡ length l.initial.out)
-    × (◌≡◌ {A = Ran × List ℕ} (ran_on (ran_from l.t l.terms l.width l.done l.s l.code (lines_of (drop l.at l.run))) (l.to, l.out)) (ran_on (ran_from l.t l.terms l.width l.begun l.start l.first (lines_of l.run)) (l.initial.to, l.initial.out)))
+    × (◌≡◌ {A = Ran × List ℕ} (ran_on (ran_from l.m.listing.now l.m.terms.now (length l.m.bits.now) l.done l.state l.code (lines_of (drop l.at l.run))) (l.to, l.out)) (ran_on (ran_from l.m.listing.now l.m.terms.now (length l.m.bits.now) l.begun l.start l.first (lines_of l.run)) (l.initial.to, l.initial.out)))
 
 abbrev pub decreases-loop-end : goal.decreases-loop-end
 decreases-loop-end l = length l.run - l.at

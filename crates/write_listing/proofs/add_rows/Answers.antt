@@ -8,7 +8,7 @@ use lib.Seq.{take_all}
 use Rattle.sets.proofs.Places.{take-most}
 use Rattle.rules.specs.Limits.{most_rows}
 use Rattle.rules.specs.declared.Row.{Row}
-use Rattle.write_pen.proofs.Growing.{take-one}
+use Rattle.std.proofs.lemmas.List.{take_more}
 use Rattle.write_parts.specs.Parts.{added_all}
 use Rattle.write_parts.proofs.Adding.{all_none, all_then}
 use Rattle.write_listing.specs.Listings.{row_lines}
@@ -31,7 +31,7 @@ loop-row-preserved c =
     all_then (row_lines a.t.head (take c.loop-row.row-index items)) _ (a.part, a.out.now) (c.loop-row.to, c.loop-row.out) _ c.loop-row.invariant c.add_row-to.ensures
     ∙ ap (λ (ls : List (List ℕ)). added_all ls (a.part, a.out.now))
     (sym
-    (ap (row_lines a.t.head) (take-one items c.loop-row.row-index _ c.loop-row-test.true)
+    (ap (row_lines a.t.head) (take_more items c.loop-row.row-index _ c.loop-row-test.true)
     ∙ rows_more a.t.head (take c.loop-row.row-index items) _))
 
 pub returns : goal.returns

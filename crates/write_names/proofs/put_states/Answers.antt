@@ -1,11 +1,9 @@
 -- `write_names::put_states` meets its contract. The loop's invariant: what is written is the lines of the first i names.
-use mathlib.Core.Path.{◌≡◌, sym, ap, ◌∙◌}
-use Prim.Native.Nat.{◌<◌}
+use mathlib.Core.Path.{◌≡◌, sym, ◌∙◌}
 use native.Mathlib.Omega.{arith}
 use borrow.Author.Rules.{rules}
-use lib.ListN.{length, length-take}
-use lib.Seq.{get_or-take}
-use Rattle.read_names.specs.Names.{piece_of, names_in}
+use lib.ListN.{length}
+use Rattle.read_names.specs.Names.{names_in}
 use Rattle.read_names.proofs.Found.{names-length, name-at}
 use Rattle.write_pen.proofs.Laws.{wrote_none, wrote_then, wrote_as}
 use Rattle.write_names.proofs.Lines.{lines_none, lines-one, lines-all}
@@ -23,10 +21,8 @@ loop-i-preserved c =
     let a = c.args in
     let names = names_in a.text.now a.names in
     let long = places-long (goal.at.loop-i-preserved c).Start in
-    let few : c.loop-i.i < c.least-n.result = omega (arith, c.loop-i-test.true, length-take c.least-n.result a.names.places) in
     let name =
-    c.bytes_of.ensures
-    ∙ ap (piece_of a.text.now) (get_or-take c.least-n.result a.names.places c.loop-i.i _ few)
+    c.bytes_of-name.ensures
     ∙ sym (name-at a.text.now a.names c.loop-i.i (omega (arith, c.least-n.ensures)) (omega (arith, c.least-n.ensures, long))) in
     wrote_as (wrote_then c.loop-i.invariant c.put_line-to.ensures) (lines-one names c.loop-i.i (omega (arith, names-length a.text.now a.names, c.least-n.ensures, long)) name)
 
@@ -36,4 +32,4 @@ returns c =
     let long = places-long (goal.at.returns c).Start in
     wrote_as c.loop-i.invariant
     (lines-all (names_in a.text.now a.names) c.loop-i.i
-    (omega (arith, names-length a.text.now a.names, c.least-n.ensures, long, c.loop-i-test.false, length-take c.least-n.result a.names.places)))
+    (omega (arith, names-length a.text.now a.names, c.least-n.ensures, long)))

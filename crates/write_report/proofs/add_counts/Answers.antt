@@ -8,8 +8,8 @@ use Rattle.write_parts.proofs.Lines.{line-ends, line-long, line-added}
 use Rattle.write_report.proofs.add_counts.Goals.{Start}
 use Rattle.write_report.proofs.add_counts.Goals as goal
 
-fits : (c : Start) → let a = c.args in length (count_line a.bits a.asked a.unmet a.passes a.looks) ≤ 108
-fits c = let a = c.args in count-length 19 19 a.bits a.asked a.unmet a.passes a.looks (omega arith) (omega arith) (omega arith) (omega arith) (omega arith)
+fits : (c : Start) → let a = c.args in length (count_line a.c.bits a.c.asked a.c.unmet a.c.passes a.c.looks) ≤ 108
+fits c = let a = c.args in count-length 19 19 a.c.bits a.c.asked a.c.unmet a.c.passes a.c.looks (omega arith) (omega arith) (omega arith) (omega arith) (omega arith)
 
 pub slice_bounds-line-end : goal.slice_bounds-line-end
 slice_bounds-line-end c = line-ends c.put_count_line-end.ensures (fits (goal.at.slice_bounds-line-end c).Start)

@@ -5,4 +5,4 @@ use Rattle.judge_search.proofs.backing.share_inputs.Goals as goal
 
 pub returns : goal.returns
 returns c =
-    inputs-mask c.args.inputs c.args.a c.args.b c.args.c c.args.d (omega arith) (omega arith) c.requires c.everyone_of.ensures
+    inputs-mask c.args.inputs c.args.one.ones c.args.other.ones c.args.one.dashes c.args.other.dashes (omega arith) (omega arith) c.requires c.everyone_of.ensures

@@ -13,10 +13,10 @@ placed : (c : After-in_place) → let a = c.args in kiss_placed (kiss_mark (mark
 placed c = let a = c.args in ap (λ (m : KissMark). kiss_placed m a.h) (sym c.mark_of.ensures) ∙ sym c.in_place.ensures
 
 pub returns-then-l-eq0 : goal.returns-then-l-eq0
-returns-then-l-eq0 c = sym (unended-none _ _ _ c.if-l-eq0.true)
+returns-then-l-eq0 c = c.at.ensures ∙ sym (unended-none _ _ _ c.if-l-eq0.true)
 
 pub returns-then-in_place : goal.returns-then-in_place
-returns-then-in_place c = sym (unended-some _ _ _ c.if-l-eq0.false (placed (goal.at.returns-then-in_place c).After-in_place ∙ c.if-in_place.true))
+returns-then-in_place c = c.at-then-in_place.ensures ∙ sym (unended-some _ _ _ c.if-l-eq0.false (placed (goal.at.returns-then-in_place c).After-in_place ∙ c.if-in_place.true))
 
 pub returns : goal.returns
-returns c = sym (unended-some _ _ _ c.if-l-eq0.false (placed (goal.at.returns c).After-in_place ∙ c.if-in_place.false))
+returns c = c.at-2.ensures ∙ sym (unended-some _ _ _ c.if-l-eq0.false (placed (goal.at.returns c).After-in_place ∙ c.if-in_place.false))
