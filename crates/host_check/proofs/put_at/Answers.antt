@@ -5,4 +5,4 @@ use Rattle.host_check.proofs.put_at.Goals as goal
 
 pub returns : goal.returns
 returns c =
-    wrote_as (wrote_then c.put_bytes-p.ensures (wrote_then c.put_field-q.ensures c.put_field.ensures)) (at_fields _ _)
+    wrote_as (wrote_then c.put_bytes-p.ensures (wrote_then c.put_field-q.ensures c.put_field.ensures)) (at_fields _)
