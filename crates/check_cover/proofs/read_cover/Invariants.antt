@@ -3,4 +3,4 @@ use Rattle.std.proofs.Common.{◌≤◌, length}
 use Rattle.check_cover.proofs.read_cover.Given as goal
 
 abbrev pub invariant-loop : goal.invariant-loop
-invariant-loop g l = l.going.held ≤ length l.bytes
+invariant-loop g l = l.held ≤ length l.bytes
