@@ -6,18 +6,19 @@ use Rattle.rules.specs.Parts.{whole_lines}
 use Rattle.host_replay.proofs.Ends.{whole-on, ends-here, ends-none}
 use Rattle.host_replay.proofs.piece_end.Goals as goal
 
-pub returns-then-bytes-end-eq10 : goal.returns-then-bytes-end-eq10
-returns-then-bytes-end-eq10 c =
-    let b = c.args.bytes.now in
-    record { value = ends-here b c.loop-end.end c.loop-end.invariant.1 (c.loop-end.end - 1) (omega (arith, c.loop-end-test.true)) (omega (arith, c.loop-end-test.true, c.loop-end.invariant.0)) c.if-bytes-end-eq10.true; upper_bound = c.loop-end.invariant.0 }
+pub returns-then-bytes-i-eq10 : goal.returns-then-bytes-i-eq10
+returns-then-bytes-i-eq10 c =
+    let l = c.loop-i in
+    let here = ends-here c.args.bytes.now l.i l.invariant (l.i - 1) (omega (arith, c.loop-i-test.true)) (omega (arith, c.loop-i-test.true, l.auto.i)) c.if-bytes-i-eq10.true in
+    record { value = omega (arith, here, c.loop-i-test.true); upper_bound = omega (arith, c.loop-i-test.true, l.auto.i) }
 
-pub loop-end-preserved : goal.loop-end-preserved
-loop-end-preserved c =
+pub loop-i-preserved : goal.loop-i-preserved
+loop-i-preserved c =
+    let l = c.loop-i in
     let b = c.args.bytes.now in
-    let one : c.loop-end.end ≡ suc (c.loop-end.end - 1) = omega (arith, c.loop-end-test.true) in
-    (omega (arith, c.loop-end.invariant.0), c.loop-end.invariant.1 ∙ ap (λ (i : ℕ). whole_lines i b) one ∙ whole-on (c.loop-end.end - 1) b (omega (arith, c.loop-end-test.true, c.loop-end.invariant.0)) c.if-bytes-end-eq10.false)
+    let one : l.i ≡ suc (l.i - 1) = omega (arith, c.loop-i-test.true) in
+    l.invariant ∙ ap (λ (i : ℕ). whole_lines i b) one ∙ whole-on (l.i - 1) b (omega (arith, c.loop-i-test.true, l.auto.i)) c.if-bytes-i-eq10.false
 
 pub returns : goal.returns
 returns c =
-    let b = c.args.bytes.now in
-    record { value = ends-none b c.loop-end.end c.loop-end.invariant.1 (omega (arith, c.loop-end-test.false)); upper_bound = omega arith }
+    record { value = ends-none c.args.bytes.now c.loop-i.i c.loop-i.invariant (omega (arith, c.loop-i-test.false)); upper_bound = omega arith }
