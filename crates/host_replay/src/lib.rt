@@ -121,10 +121,8 @@ pub fn piece_end(bytes: &[u8]) -> usize
     ensures value { result ≡ piece_end bytes.now }
     ensures upper_bound { result ≤ length bytes.now }
 {
-    for i in (0..bytes.len()).rev() {
-        if bytes[i] == b'\n' {
-            return i + 1;
-        }
+    match bytes.iter().rposition(|&b| b == b'\n') {
+        Some(i) => i + 1,
+        None => bytes.len(),
     }
-    bytes.len()
 }
