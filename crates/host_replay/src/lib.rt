@@ -30,9 +30,8 @@ pub struct Printed {
 pub fn machines(ready: Ready) -> Machines
     ensures { result ≡ machines_in ready }
 {
-    let e = ready.encoding;
-    let bits = e.bits;
-    run_replay::machines_of(ready.listing, e.width, bits)
+    let code = ready.encoding;
+    run_replay::machines_of(ready.listing, code.width, code.bits)
 }
 
 // The whole lines of the replay of a run from byte `from` on that fit, added to an empty part.
@@ -108,11 +107,9 @@ pub fn print_piece(m: Machines, place: Place, run: &[u8], out: &mut [u8]) -> Pri
     ensures { ((result, out.new) ≡ printing_piece (course_of m place run.now) out.old) × (result.given ≤ length out.new) }
 {
     let ran = run_replay::add_piece(out, write_parts::begin(0), m, place, run);
-    let part = ran.part;
-    let reached = ran.place;
     Printed {
-        given: part.given,
-        place: reached,
+        given: ran.part.given,
+        place: ran.place,
     }
 }
 
