@@ -1,8 +1,9 @@
 -- Where the whole lines among some bytes end, looked for from behind.
+use Rattle.std.specs.Prelude.{◌≢◌}
 use mathlib.Core.Path.{◌≡◌, refl, ap, ◌∙◌}
 use mathlib.Core.Bool.{Bool, cond}
 use mathlib.Core.List.{List, [], ◌∷◌}
-use Prim.Native.Nat.{ℕ, zero, suc, ◌<◌}
+use Prim.Native.Nat.{ℕ, zero, suc, ◌+◌, ◌-◌, ◌≤◌, ◌<◌}
 use native.Mathlib.Omega.{arith}
 use lib.ListN.{length, get_or}
 use borrow.Author.Tests.{eq-eqb, ne_eqb}
@@ -35,16 +36,24 @@ whole-nothing : (l : List ℕ) → whole_lines 0 l ≡ []
 unfolding whole_lines
 whole-nothing l = refl
 
--- so it ends there, or there is none
-module _ (l : List ℕ) (end : ℕ) (same : whole_lines (length l) l ≡ whole_lines end l) where
-  pub ends-here : (k : ℕ) → end ≡ suc k → k < length l → get_or l k 0 ≡ lf → end ≡ piece_end l
-  unfolding piece_end
-  ends-here k e h b =
-      let n : length (whole_lines (length l) l) ≡ suc k = ap length (same ∙ ap (λ (i : ℕ). whole_lines i l) e) ∙ whole_here k l h b in
-      rw (n, ne_eqb (suc k) 0 (λ z. omega arith)) e
+-- so it ends behind the last LF, or there is none
+module _ (l : List ℕ) where
+  -- up to m, behind k, where no byte is LF
+  whole-behind : (m n k : ℕ) → m ≡ k + n → m ≤ length l → ((j : ℕ) → k ≤ j → j < length l → get_or l j 0 ≢ lf) → whole_lines m l ≡ whole_lines k l
+  whole-behind m zero k e h o = ap (λ (i : ℕ). whole_lines i l) (omega (arith, e))
+  whole-behind zero (suc n) k e h o = absurd (omega (arith, e))
+  whole-behind (suc m) (suc n) k e h o =
+      whole-on m l (omega arith) (o m (omega (arith, e)) (omega arith)) ∙ whole-behind m n k (omega (arith, e)) (omega arith) o
 
-  pub ends-none : end ≡ 0 → length l ≡ piece_end l
+  pub ends-here : (k : ℕ) → k < length l → get_or l k 0 ≡ lf → ((j : ℕ) → k + 1 ≤ j → j < length l → get_or l j 0 ≢ lf) → k + 1 ≡ piece_end l
   unfolding piece_end
-  ends-none e =
-      let n : length (whole_lines (length l) l) ≡ 0 = ap length (same ∙ ap (λ (i : ℕ). whole_lines i l) e ∙ whole-nothing l) in
+  ends-here k h b o =
+      let n : length (whole_lines (length l) l) ≡ suc k =
+      ap length (whole-behind (length l) (length l - suc k) (suc k) (omega arith) (omega arith) (λ j z. o j (omega (arith, z)))) ∙ whole_here k l h b in
+      rw (n, ne_eqb (suc k) 0 (λ z. omega arith)) (omega arith)
+
+  pub ends-none : ((j : ℕ) → j < length l → get_or l j 0 ≢ lf) → length l ≡ piece_end l
+  unfolding piece_end
+  ends-none o =
+      let n : length (whole_lines (length l) l) ≡ 0 = ap length (whole-behind (length l) (length l) 0 (omega arith) (omega arith) (λ j z. o j) ∙ whole-nothing l) in
       rw n

@@ -16,7 +16,6 @@ use Rattle.rules.specs.declared.Head.{Head}
 use Rattle.rules.specs.declared.Listing.{Listing}
 use Rattle.rules.specs.declared.Refusal.TheVariants.{BadLine, Limit}
 use Rattle.rules.proofs.Fields.{Without, split-last}
-use Rattle.read_pieces.proofs.Laws.{First}
 use Rattle.run_lines.proofs.Lengths.{marked-long, numeral-long, first-line}
 use Rattle.run_encoded.specs.declared.Terms.{Terms}
 use Rattle.run_replay.specs.Places.{Course, ends_at, ran_from, ran_first, ran_by, course_of}

@@ -1,4 +1,5 @@
 -- What a listing is ready for, with a run, is the reply of 02; the replay is no longer than a bound; and pieces of a run print what the whole run does.
+use Rattle.std.specs.Prelude.{Ok, Err, Result}
 use mathlib.Core.Path.{◌≡◌, refl, sym, ap, subst, ◌∙◌}
 use mathlib.Core.Bool.{Bool, true, false, cond}
 use mathlib.Core.List.{List}
@@ -7,17 +8,17 @@ use native.Mathlib.Omega.{arith}
 use lib.Dec.{leb}
 use lib.ListN.{length, take, length-take}
 use Rattle.rules.specs.Text.{lines_of}
-use Rattle.rules.specs.Listing.{reading}
+use Rattle.rules.specs.Listing.{reading, Reading}
 use Rattle.rules.specs.Requirements.{pairs_and_groups}
 use Rattle.rules.specs.Code.{Code, Coding, coded, uncoded, coding, unmet_from}
 use Rattle.rules.specs.Report.{joined_lines}
 use Rattle.rules.specs.Cover.{cover}
-use Rattle.rules.specs.Answers.{Reply, says, refuses, cover_of}
+use Rattle.rules.specs.Answers.{Reply, says, refuses, on_reading, cover_of}
 use Rattle.rules.specs.Replay.{replay, replay_of, replay_reply}
 use Rattle.rules.specs.declared.Listing.{Listing}
 use Rattle.rules.specs.declared.Encoding.{Encoding}
-use Rattle.rules.specs.declared.Verdict.{Verdict}
-use Rattle.rules.specs.declared.Refusal.{Refusal}
+use Rattle.rules.specs.Refusals.{Verdict, refused}
+use Rattle.rules.specs.declared.Refused.{Refused}
 use Rattle.rules.specs.declared.Refusal.TheVariants.{Unmet}
 use Rattle.rules.proofs.Ways.{chose-second}
 use Rattle.rules.proofs.Ended.{Pieces}
@@ -27,19 +28,18 @@ use Rattle.rules.proofs.Written.{says_same, says-not}
 use Rattle.write_parts.specs.Parts.{begun, added_all}
 use Rattle.write_parts.proofs.Adding.{Lent, all-length}
 use Rattle.write_parts.proofs.Parted.{Made, made}
-use Rattle.code_encoding.specs.Encode.{no_encoding, encoded_as, encoded}
+use Rattle.code_encoding.specs.Encode.{encoding_of, encoded_as, encoded}
 use Rattle.code_drawing.specs.Drawing.{first_families}
 use Rattle.code_judging.specs.Judging.{any_unmet}
 use Rattle.write_texts.specs.Texts.{cover_verdict, verdict_of, text_lines}
 use Rattle.write_texts.specs.declared.Text.{Text}
 use Rattle.host_replies.specs.Plans.{plan_of, is_kiss, is_small, reading_as, width_for, encoded_by}
-use Rattle.host_replies.specs.Ready.{verdict_on, ready_by, ready}
+use Rattle.host_replies.specs.Ready.{ready_in, ready_with, ready_of, ready, reply_of}
 use Rattle.host_replies.specs.declared.plans.Wanted.{Wanted}
 use Rattle.host_replies.specs.declared.Ready.{Ready}
 use Rattle.host_replies.proofs.Encodings.{Whole, whole-as, fair-encoded}
 use Rattle.host_replies.proofs.Texts.{cover-said}
 use Rattle.host_replies.proofs.Replies.{Small, reply-small}
-use Rattle.host_replies.proofs.Sayings.{reply-refused}
 use Rattle.run_replay.specs.Moves.{machines_of}
 use Rattle.run_replay.specs.Places.{Course, course_of, ran_on}
 use Rattle.run_replay.specs.declared.Machines.{Machines}
@@ -82,16 +82,14 @@ module _ (g : Course) (whole : Pieces g.0) (out : List ℕ) {s : Lent} (e : s �
   pub piece-fits : s.0.given ≤ length s.1
   piece-fits = omega (arith, here.given, part-fits (length out) 0 (joined_lines g.0), ap (λ (t : Lent). length t.1) e, all-length g.0 (begun 0, out))
 
--- ---- by the verdict
+-- ---- a listing that is ready
 
-module _ (d : Ready) (run : List ℕ) where
-  pub replay-accepted : d.verdict ≡ Verdict.Accepted → replay_in d run ≡ says (joined_lines (course_of (machines_in d) Place.First run).0)
-  unfolding replay_in
-  replay-accepted h = ap (λ (v : Verdict). elim v as (λ x. Reply) [ Verdict.Accepted ↦ says (joined_lines (course_of (machines_in d) Place.First run).0) | Verdict.Refused r k ↦ refuses r k ]) h
-
-  pub replay-refused : (r : Refusal) (k : ℕ) → d.verdict ≡ Verdict.Refused r k → replay_in d run ≡ refuses r k
-  unfolding replay_in
-  replay-refused r k h = ap (λ (v : Verdict). elim v as (λ x. Reply) [ Verdict.Accepted ↦ says (joined_lines (course_of (machines_in d) Place.First run).0) | Verdict.Refused r k ↦ refuses r k ]) h
+-- by its machines, however they were made
+pub replay-said : (run : List ℕ) {x : Result Ready Refused} {d : Ready} → x ≡ Ok d → {m : Machines} → m ≡ machines_in d
+    → replay_in x run ≡ says (joined_lines (course_of m Place.First run).0)
+unfolding replay_in
+replay-said run was made =
+    ap (λ (x : Result Ready Refused). replay_in x run) was ∙ sym (ap (λ (m : Machines). says (joined_lines (course_of m Place.First run).0)) made)
 
 -- ---- a listing that is accepted
 
@@ -102,14 +100,14 @@ cover-is t c text e =
     let un : List ℕ = unmet_from 0 t.head.states c.bits (pairs_and_groups t) in
     says_same (cover t c.bits) text (chose-second (leb 1 (length un)) e (says-not Unmet 0 text)).1
 
-module _ (t : Listing) (sound : Sound t) (run : List ℕ) where
-  -- what is told by a verdict, of the code that an encoding holds
-  abbrev told : Encoding → Verdict → Reply
-  told e v = elim v [ Verdict.Accepted ↦ says (joined_lines (course_of (machines_of t e.width e.bits) Place.First run).0) | Verdict.Refused r k ↦ refuses r k ]
+-- a cover that is withheld, or not
+abbrev withheld-if : Listing → Encoding → Bool → Result Ready Refused
+withheld-if t e b = elim (cond {A = Verdict} b (refused Unmet 0) (Ok tt)) [ Ok _ ↦ Ok (record { text = Text.Cover; listing = t; encoding = e }) | Err why ↦ Err why ]
 
-  -- the encoder's verdict, and then that of the cover
-  abbrev covered : Encoding → Verdict
-  covered e = elim e.verdict [ Verdict.Refused r k ↦ Verdict.Refused r k | Verdict.Accepted ↦ verdict_of Text.Cover t e ]
+module _ (t : Listing) (sound : Sound t) (run : List ℕ) where
+  -- what is told by what an encoder gives
+  abbrev told : Result Encoding Refused → Reply
+  told a = replay_in (ready_with Text.Cover t a) run
 
   -- by the cover that there is or is not
   by-cover : (c : Code) (q : Reply) → cover_of t (coded c) ≡ q → replay_of t (coded c) run ≡ elim q [ says text ↦ says (replay t c.bits text run) | refuses r k ↦ refuses r k ]
@@ -124,41 +122,38 @@ module _ (t : Listing) (sound : Sound t) (run : List ℕ) where
       ∙ ap (λ (b : List ℕ). replay t b (cover t b) run) w.holds.bits
       ∙ ap (λ (x : List ℕ). replay t c.bits x run) (cover-is t c text h)
 
-  in_code : (a : Coding) → coding t ≡ a → told (encoded_as t a) (covered (encoded_as t a)) ≡ replay_of t a run
-  unfolding encoded_as no_encoding verdict_of cover_verdict replay_of
+  in_code : (a : Coding) → coding t ≡ a → told (encoded_as t a) ≡ replay_of t a run
+  unfolding encoded_as verdict_of cover_verdict ready_with ready_in replay_in machines_in replay_of
   in_code (uncoded r) q = refl
-  in_code (coded c) q = go (any_unmet (first_families t) (encoded_as t (coded c))) refl
+  in_code (coded c) q = go (any_unmet (first_families t) e) refl
     where
-      w : Whole t c (encoded_as t (coded c))
+      e : Encoding
+      e = encoding_of t c
+
+      w : Whole t c e
       w = whole-as t sound c q
 
-      go : (b : Bool) → any_unmet (first_families t) (encoded_as t (coded c)) ≡ b → told (encoded_as t (coded c)) (cond b (Verdict.Refused Unmet 0) Verdict.Accepted) ≡ replay_of t (coded c) run
-      go true h = sym (by-cover c (refuses Unmet 0) (sym (cover-said t c (encoded_as t (coded c)) w true h)))
+      go : (b : Bool) → any_unmet (first_families t) e ≡ b → replay_in (withheld-if t e b) run ≡ replay_of t (coded c) run
+      go true h = sym (by-cover c (refuses Unmet 0) (sym (cover-said t c e w true h)))
       go false h =
-          let text : List ℕ = joined_lines (text_lines Text.Cover t (encoded_as t (coded c))) in
-          let is : cover_of t (coded c) ≡ says text = sym (cover-said t c (encoded_as t (coded c)) w false h) in
-          ap says (run-said c (encoded_as t (coded c)) w text is) ∙ sym (by-cover c (says text) is)
+          let text : List ℕ = joined_lines (text_lines Text.Cover t e) in
+          let is : cover_of t (coded c) ≡ says text = sym (cover-said t c e w false h) in
+          ap says (run-said c e w text is) ∙ sym (by-cover c (says text) is)
 
-  accepted : told (encoded t) (covered (encoded t)) ≡ replay_of t (coding t) run
-  accepted = ap (λ (e : Encoding). told e (covered e)) (fair-encoded t sound) ∙ in_code (coding t) refl
+  accepted : told (encoded t) ≡ replay_of t (coding t) run
+  accepted = ap told (fair-encoded t sound) ∙ in_code (coding t) refl
 
 -- ---- any bytes
 
 module _ (s run : List ℕ) where
-  abbrev t : Listing
-  t = (reading s).listing
-
-  by-reading : (v : Verdict) → (reading s).verdict ≡ v
-      → ◌≡◌ {A = Reply}
-      (elim (verdict_on Text.Cover v t (encoded t)) [ Verdict.Accepted ↦ says (joined_lines (course_of (machines_of t (encoded t).width (encoded t).bits) Place.First run).0) | Verdict.Refused r k ↦ refuses r k ])
-      (elim v [ Verdict.Accepted ↦ replay_of t (coding t) run | Verdict.Refused r k ↦ refuses r k ])
-  unfolding verdict_on
-  by-reading Verdict.Accepted h = accepted t (accepted-sound s h) run
-  by-reading (Verdict.Refused r k) h = refl
+  by-reading : (r : Reading) → reading s ≡ r → replay_in (ready_of (plan_of Wanted.Cover) r) run ≡ on_reading r (λ t. replay_of t (coding t) run)
+  unfolding replay_in ready_of plan_of width_for encoded_by
+  by-reading (Ok t) h = accepted t (accepted-sound s h) run
+  by-reading (Err why) h = refl
 
   pub reply-is : replay_in (ready Wanted.Cover s) run ≡ replay_reply s run
-  unfolding replay_in machines_in ready ready_by plan_of reading_as is_kiss is_small width_for encoded_by replay_reply
-  reply-is = by-reading (reading s).verdict refl
+  unfolding ready plan_of reading_as is_kiss is_small replay_reply
+  reply-is = by-reading (reading s) refl
 
 -- ---- how long what is said is
 
@@ -168,11 +163,9 @@ SmallRun (says text) = length text ≤ longest_run
 SmallRun (refuses r line) = line < 100000
 
 pub replay-small : (s run : List ℕ) → SmallRun (replay_reply s run)
-replay-small s run = subst SmallRun (reply-is s run) (go d.verdict refl)
+unfolding replay_in reply_of
+replay-small s run = subst SmallRun (reply-is s run) (go (ready Wanted.Cover s) refl)
   where
-    d : Ready
-    d = ready Wanted.Cover s
-
-    go : (v : Verdict) → d.verdict ≡ v → SmallRun (replay_in d run)
-    go Verdict.Accepted h = subst SmallRun (sym (replay-accepted d run h)) (course-few (machines_in d) run)
-    go (Verdict.Refused r k) h = subst SmallRun (sym (replay-refused d run r k h)) (subst Small (reply-refused d r k h) (reply-small Wanted.Cover s))
+    go : (d : Result Ready Refused) → ready Wanted.Cover s ≡ d → SmallRun (replay_in d run)
+    go (Ok d) h = course-few (machines_in d) run
+    go (Err why) h = subst Small (ap reply_of h) (reply-small Wanted.Cover s)

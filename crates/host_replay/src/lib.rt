@@ -4,15 +4,17 @@
 ghost use Rattle.std.specs.Prelude.{◌≡◌, ◌≤◌, ltb, length};
 ghost use Rattle.rules.specs.Report.{joined_lines};
 ghost use Rattle.rules.specs.Replay.{replay_reply};
+ghost use Rattle.write_parts.specs.Parts.{begun, added_all};
 ghost use Rattle.host_replies.specs.Saying.{saying, saying_part};
 ghost use Rattle.run_replay.specs.Places.{course_of};
 ghost use Rattle.run_replay.specs.declared.Place.{Place};
 ghost use Rattle.host_replay.specs.Replaying.{machines_in, replay_in, printing_piece, piece_end};
 
+use host_replies::Ready;
 use host_replies::plans::Wanted;
-use host_replies::{Ready, Said};
-use rules::Verdict;
+use rules::{Refusal, Refused};
 use run_replay::{Machines, Place};
+use write_parts::Part;
 
 // So many bytes of room are always enough: 10,000 steps of 104 bytes, and a refusal of 12.
 pub const ROOM: usize = 1040012;
@@ -28,76 +30,68 @@ pub struct Printed {
 pub fn machines(ready: Ready) -> Machines
     ensures { result ≡ machines_in ready }
 {
-    let e = ready.encoding;
-    let bits = e.bits;
-    run_replay::machines_of(ready.listing, e.width, bits)
+    let code = ready.encoding;
+    run_replay::machines_of(ready.listing, code.width, code.bits)
+}
+
+// The whole lines of the replay of a run from byte `from` on that fit, added to an empty part.
+fn print_from(m: &Machines, run: &[u8], from: usize, out: &mut [u8]) -> Part
+    ensures { (result, out.new) ≡ added_all (course_of m.now Place.First run.now).0 (begun from, out.old) }
+{
+    let ran = run_replay::add_piece(out, write_parts::begin(from), *m, Place::First, run);
+    ran.part
 }
 
 // Whether the replay of a run is longer than so many bytes. Where that is not plain, it is measured: with those passed over, and no room, a line is left.
-fn is_longer(m: Machines, run: &[u8], len: usize) -> bool
-    ensures { result ≡ ltb len (length (joined_lines (course_of m Place.First run.now).0)) }
+fn is_longer(m: &Machines, run: &[u8], len: usize) -> bool
+    ensures { result ≡ ltb len (length (joined_lines (course_of m.now Place.First run.now).0)) }
 {
     if ROOM <= len {
         return false;
     }
     let mut none = [0u8; 1];
-    let begun = write_parts::begin(len);
-    let measured = run_replay::add_piece(&mut none[..0], begun, m, Place::First, run);
-    let part = measured.part;
-    part.full
+    let measured = print_from(m, run, len, &mut none[..0]);
+    measured.full
 }
 
-// The whole replay, where it fits.
-fn say_whole(ready: Ready, run: &[u8], out: &mut [u8]) -> Said
+// The whole replay, or 10 where it does not fit.
+fn say_whole(ready: Result<Ready, Refused>, run: &[u8], out: &mut [u8]) -> Result<usize, Refused>
     ensures { (result, out.new) ≡ saying (replay_in ready run.now) out.old }
 {
-    let verdict = ready.verdict;
-    match verdict {
-        Verdict::Refused(r, line) => Said::Refused(r, line),
-        Verdict::Accepted => {
-            let m = machines(ready);
-            if is_longer(m, run, out.len()) {
-                return Said::Refused(rules::Refusal::NoRoom, 0);
-            }
-            let begun = write_parts::begin(0);
-            let ran = run_replay::add_piece(out, begun, m, Place::First, run);
-            let part = ran.part;
-            Said::Text(part.given)
-        }
+    let m = machines(ready?);
+    if is_longer(&m, run, out.len()) {
+        return Err(Refusal::NoRoom.at(0));
     }
+    let part = print_from(&m, run, 0, out);
+    Ok(part.given)
 }
 
-// What is said of any bytes of a listing and any of a run.
-pub fn say(listing: &[u8], run: &[u8], out: &mut [u8]) -> Said
+// What is said of any bytes of a listing and any of a run: how many bytes the replay has, or the refusal and its line.
+pub fn say(listing: &[u8], run: &[u8], out: &mut [u8]) -> Result<usize, Refused>
     ensures { (result, out.new) ≡ saying (replay_reply listing.now run.now) out.old }
 {
     say_whole(host_replies::prepare(Wanted::Cover, listing), run, out)
 }
 
 // The whole lines of the replay that fit, from byte `from` on; none where there is no more, and 10 where the next does not fit.
-fn say_from(ready: Ready, run: &[u8], from: usize, out: &mut [u8]) -> Said
+fn say_from(
+    ready: Result<Ready, Refused>,
+    run: &[u8],
+    from: usize,
+    out: &mut [u8],
+) -> Result<usize, Refused>
     ensures { (result, out.new) ≡ saying_part (replay_in ready run.now) from out.old }
 {
-    let verdict = ready.verdict;
-    match verdict {
-        Verdict::Refused(r, line) => Said::Refused(r, line),
-        Verdict::Accepted => {
-            let m = machines(ready);
-            let begun = write_parts::begin(from);
-            let ran = run_replay::add_piece(out, begun, m, Place::First, run);
-            let part = ran.part;
-            if part.given == 0 {
-                if part.full {
-                    return Said::Refused(rules::Refusal::NoRoom, 0);
-                }
-            }
-            Said::Text(part.given)
-        }
+    let m = machines(ready?);
+    let part = print_from(&m, run, from, out);
+    if part.given == 0 && part.full {
+        return Err(Refusal::NoRoom.at(0));
     }
+    Ok(part.given)
 }
 
 // A part of what is said of any bytes.
-pub fn say_part(listing: &[u8], run: &[u8], from: usize, out: &mut [u8]) -> Said
+pub fn say_part(listing: &[u8], run: &[u8], from: usize, out: &mut [u8]) -> Result<usize, Refused>
     ensures { (result, out.new) ≡ saying_part (replay_reply listing.now run.now) from out.old }
 {
     say_from(
@@ -113,11 +107,9 @@ pub fn print_piece(m: Machines, place: Place, run: &[u8], out: &mut [u8]) -> Pri
     ensures { ((result, out.new) ≡ printing_piece (course_of m place run.now) out.old) × (result.given ≤ length out.new) }
 {
     let ran = run_replay::add_piece(out, write_parts::begin(0), m, place, run);
-    let part = ran.part;
-    let reached = ran.place;
     Printed {
-        given: part.given,
-        place: reached,
+        given: ran.part.given,
+        place: ran.place,
     }
 }
 
@@ -126,12 +118,8 @@ pub fn piece_end(bytes: &[u8]) -> usize
     ensures value { result ≡ piece_end bytes.now }
     ensures upper_bound { result ≤ length bytes.now }
 {
-    let mut end = bytes.len();
-    while 0 < end {
-        if bytes[end - 1] == b'\n' {
-            return end;
-        }
-        end -= 1;
+    match bytes.iter().rposition(|&b| b == b'\n') {
+        Some(i) => i + 1,
+        None => bytes.len(),
     }
-    bytes.len()
 }

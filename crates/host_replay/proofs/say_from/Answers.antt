@@ -1,49 +1,35 @@
 -- `host_replay::say_from` meets its contract: a refusal, 10 where nothing is given and something is left, or the part.
-use mathlib.Core.Path.{◌≡◌, ap₂, ◌∙◌}
-use Rattle.rules.proofs.Ended.{Pieces}
-use Rattle.write_parts.specs.Parts.{begun, added_all}
-use Rattle.write_parts.specs.declared.Part.{Part}
-use Rattle.write_parts.proofs.Adding.{Lent}
-use Rattle.host_replies.proofs.Told.{refused-part, part-waits, part-said}
-use Rattle.run_replay.specs.Places.{Course, course_of, ran_on}
-use Rattle.run_replay.specs.declared.Machines.{Machines}
+use Rattle.std.specs.Prelude.{Err, Result}
+use mathlib.Core.Path.{sym, ap, ◌∙◌}
+use Rattle.std.proofs.lemmas.Result.{err_from_is_err_and}
+use Rattle.rules.specs.declared.Refused.{Refused}
+use Rattle.host_replies.specs.Saying.{saying_part}
+use Rattle.host_replies.specs.declared.Ready.{Ready}
+use Rattle.host_replies.proofs.Told.{part-waits, part-said}
 use Rattle.run_replay.specs.declared.Place.{Place}
-use Rattle.host_replay.specs.Replaying.{machines_in}
-use Rattle.host_replay.proofs.Replies.{course-pieces, ran-part, replay-accepted, replay-refused}
-use Rattle.host_replay.proofs.say_from.Goals.{After-add_piece-ran}
+use Rattle.host_replay.specs.Replaying.{replay_in}
+use Rattle.host_replay.proofs.Replies.{course-pieces, replay-said}
+use Rattle.host_replay.proofs.say_from.Goals.{else-part-eq0-via-then-part-eq0+else-part, else-part-eq0-via-else-part-eq0}
 use Rattle.host_replay.proofs.say_from.Goals as goal
 
--- what the run does, on the machines of what is ready
-abbrev courseIn : After-add_piece-ran → Course
-courseIn c = let a = c.args in course_of (machines_in a.ready) Place.First a.run.now
-
-pieces-in : (c : After-add_piece-ran) → Pieces (courseIn c).0
-pieces-in c = let a = c.args in course-pieces (machines_in a.ready) Place.First a.run.now
-
--- the lines were added to a part that begins at the byte asked for
-added-from : (c : After-add_piece-ran) → let a = c.args in
-    ◌≡◌ {A = Lent} (c.add_piece-ran.result.part, c.add_piece-ran.new.out) (added_all (courseIn c).0 (begun a.from, a.out.now))
-added-from c =
+pub returns-in_err-ready : goal.returns-in_err-ready
+unfolding replay_in saying_part
+returns-in_err-ready c =
     let a = c.args in
-    ran-part (courseIn c) (begun a.from, a.out.now)
-    (c.add_piece-ran.ensures ∙ ap₂ (λ (p : Part) (m : Machines). ran_on (course_of m Place.First a.run.now) (p, a.out.now)) c.begin-begun.ensures c.machines-m.ensures)
+    let p = err_from_is_err_and c.from_residual.result c.from_residual.ensures.1 in
+    rw (p.1, p.2) (sym (ap (λ (d : Result Ready Refused). saying_part (replay_in d a.run.now) a.from a.out.now) c.in_err-ready.was))
 
 pub returns-then-part : goal.returns-then-part
 returns-then-part c =
     let a = c.args in
-    part-waits (courseIn (goal.at.returns-then-part c).After-add_piece-ran).0 (pieces-in (goal.at.returns-then-part c).After-add_piece-ran) (replay-accepted a.ready a.run.now c.in-Accepted.is) a.out.now a.from _ (added-from (goal.at.returns-then-part c).After-add_piece-ran) c.if-part-eq0.true c.if-part.true
+    ap (λ (why : Refused). (Err why, c.print_from-part.new.out)) c.at.ensures
+    ∙ part-waits _ (course-pieces c.machines-m.result Place.First a.run.now) (replay-said a.run.now c.in_ok-ready.was c.machines-m.ensures) a.out.now a.from _ c.print_from-part.ensures c.if-part-eq0.true c.if-part.true
 
-pub returns-in-Refused : goal.returns-in-Refused
-returns-in-Refused c =
+pub returns : goal.returns
+returns c =
     let a = c.args in
-    refused-part _ _ (replay-refused a.ready a.run.now _ _ c.in-Refused.is) a.out.now a.from
-
-pub returns-else-part : goal.returns-else-part
-returns-else-part c =
-    let a = c.args in
-    part-said (courseIn (goal.at.returns-else-part c).After-add_piece-ran).0 (pieces-in (goal.at.returns-else-part c).After-add_piece-ran) (replay-accepted a.ready a.run.now c.in-Accepted.is) a.out.now a.from _ (added-from (goal.at.returns-else-part c).After-add_piece-ran) (λ z. c.if-part.false)
-
-pub returns-else-part-eq0 : goal.returns-else-part-eq0
-returns-else-part-eq0 c =
-    let a = c.args in
-    part-said (courseIn (goal.at.returns-else-part-eq0 c).After-add_piece-ran).0 (pieces-in (goal.at.returns-else-part-eq0 c).After-add_piece-ran) (replay-accepted a.ready a.run.now c.in-Accepted.is) a.out.now a.from _ (added-from (goal.at.returns-else-part-eq0 c).After-add_piece-ran) (λ z. absurd (c.if-part-eq0.false z))
+    part-said _ (course-pieces c.machines-m.result Place.First a.run.now) (replay-said a.run.now c.in_ok-ready.was c.machines-m.ensures) a.out.now a.from _ c.print_from-part.ensures
+    (elim c.else-part-eq0.branch [
+      | else-part-eq0-via-then-part-eq0+else-part w ↦ λ z. w.if-part.false
+      | else-part-eq0-via-else-part-eq0 w ↦ λ z. absurd (w.if-part-eq0.false z)
+    ])

@@ -1,37 +1,31 @@
 -- `host_replay::say_whole` meets its contract: a refusal, 10 where the replay is longer than the buffer, or the replay.
-use mathlib.Core.Path.{sym, ap, ap₂, ◌∙◌}
-use lib.Dec.{ltb}
-use lib.ListN.{length}
-use Rattle.rules.specs.Report.{joined_lines}
-use Rattle.write_parts.specs.Parts.{begun}
-use Rattle.write_parts.specs.declared.Part.{Part}
-use Rattle.host_replies.proofs.Told.{refused-said, no-space, whole-said}
-use Rattle.run_replay.specs.Places.{Course, course_of, ran_on}
-use Rattle.run_replay.specs.declared.Machines.{Machines}
+use Rattle.std.specs.Prelude.{Err, Result}
+use mathlib.Core.Path.{sym, ap, ◌∙◌}
+use Rattle.std.proofs.lemmas.Result.{err_from_is_err_and}
+use Rattle.rules.specs.declared.Refused.{Refused}
+use Rattle.host_replies.specs.Saying.{saying}
+use Rattle.host_replies.specs.declared.Ready.{Ready}
+use Rattle.host_replies.proofs.Told.{no-space, whole-said}
 use Rattle.run_replay.specs.declared.Place.{Place}
-use Rattle.host_replay.specs.Replaying.{machines_in}
-use Rattle.host_replay.proofs.Replies.{course-pieces, ran-part, replay-accepted, replay-refused}
+use Rattle.host_replay.specs.Replaying.{replay_in}
+use Rattle.host_replay.proofs.Replies.{course-pieces, replay-said}
 use Rattle.host_replay.proofs.say_whole.Goals as goal
+
+pub returns-in_err-ready : goal.returns-in_err-ready
+unfolding replay_in saying
+returns-in_err-ready c =
+    let a = c.args in
+    let p = err_from_is_err_and c.from_residual.result c.from_residual.ensures.1 in
+    rw (p.1, p.2) (sym (ap (λ (d : Result Ready Refused). saying (replay_in d a.run.now) a.out.now) c.in_err-ready.was))
 
 pub returns-then-is_longer : goal.returns-then-is_longer
 returns-then-is_longer c =
     let a = c.args in
-    let d = a.ready in
-    let run = a.run.now in
-    let is = c.is_longer.ensures ∙ ap (λ (c : Machines). ltb (length a.out.now) (length (joined_lines (course_of c Place.First run).0))) c.machines-m.ensures in
-    no-space (course_of (machines_in d) Place.First run).0 (course-pieces (machines_in d) Place.First run) (replay-accepted d run c.in-Accepted.is) a.out.now (sym is ∙ c.if-is_longer.true)
+    ap (λ (why : Refused). (Err why, a.out.now)) c.at.ensures
+    ∙ no-space _ (course-pieces c.machines-m.result Place.First a.run.now) (replay-said a.run.now c.in_ok-ready.was c.machines-m.ensures) a.out.now (sym c.is_longer.ensures ∙ c.if-is_longer.true)
 
-pub returns-in-Refused : goal.returns-in-Refused
-returns-in-Refused c =
+pub returns : goal.returns
+returns c =
     let a = c.args in
-    refused-said _ _ (replay-refused a.ready a.run.now _ _ c.in-Refused.is) a.out.now
-
-pub returns-else-is_longer : goal.returns-else-is_longer
-returns-else-is_longer c =
-    let a = c.args in
-    let d = a.ready in
-    let run = a.run.now in
-    let g : Course = course_of (machines_in d) Place.First run in
-    let is = c.is_longer.ensures ∙ ap (λ (c : Machines). ltb (length a.out.now) (length (joined_lines (course_of c Place.First run).0))) c.machines-m.ensures in
-    let ran = c.add_piece-ran.ensures ∙ ap₂ (λ (p : Part) (c : Machines). ran_on (course_of c Place.First run) (p, a.out.now)) c.begin-begun.ensures c.machines-m.ensures in
-    whole-said g.0 (course-pieces (machines_in d) Place.First run) (replay-accepted d run c.in-Accepted.is) a.out.now (sym is ∙ c.if-is_longer.false) _ (ran-part g (begun 0, a.out.now) ran)
+    whole-said _ (course-pieces c.machines-m.result Place.First a.run.now) (replay-said a.run.now c.in_ok-ready.was c.machines-m.ensures) a.out.now
+    (sym c.is_longer.ensures ∙ c.if-is_longer.false) _ c.print_from-part.ensures
