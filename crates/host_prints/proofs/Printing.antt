@@ -8,7 +8,6 @@ use lib.ListN.{length, drop, length-append, length-drop}
 use Rattle.rules.specs.Report.{joined_lines}
 use Rattle.rules.specs.Answers.{Reply, says, refuses, printed}
 use Rattle.rules.specs.Parts.{whole_lines, part, gathered}
-use Rattle.rules.specs.declared.Verdict.{Verdict}
 use Rattle.rules.specs.declared.Refusal.{Refusal}
 use Rattle.rules.proofs.Ended.{no-piece, piece}
 use Rattle.rules.proofs.Parts.{whole-front, part-fits, AllFit, fit_none, fit-more, gathered-all}
@@ -22,28 +21,33 @@ use Rattle.host_replies.specs.Saying.{reply_to}
 use Rattle.host_replies.specs.declared.Ready.{Ready}
 use Rattle.host_replies.specs.declared.plans.Wanted.{Wanted}
 use Rattle.host_replies.proofs.Replies.{Small, reply-is, reply-small, reply-fits}
-use Rattle.host_replies.proofs.Sayings.{reply-accepted, reply-refused, ready-pieces}
+use Rattle.host_replies.proofs.Sayings.{ready-pieces}
 use Rattle.host_prints.specs.Printing.{ready_for, printing}
+use Rattle.rules.specs.declared.Refused.{Refused}
+use Rattle.std.specs.Prelude.{Ok, Err, Result}
 
 -- ---- what is printed of any value that is ready
 
-module _ (d : Ready) (from : ℕ) (out : List ℕ) (s : Lent) where
-  pub refused-printed : (r : Refusal) (k : ℕ) → d.verdict ≡ Verdict.Refused r k → s ≡ added (printed (refuses r k)) (begun from, out) → (s.0.given, s.1) ≡ printing (reply_of d) from out
-  unfolding printing joined_lines
-  refused-printed r k h e =
-      let l : List ℕ = printed (refuses r k) in
-      let m : Made (joined_lines (l ∷ [])) from out s = rw (e, ← all_one l (begun from, out)) (made (l ∷ []) (piece (refused-ended r k) no-piece) from out) in
-      let same : joined_lines (l ∷ []) ≡ printed (reply_of d) = append-nil l ∙ sym (ap printed (reply-refused d r k h)) in
-      ap₂ (λ (n : ℕ) (o : List ℕ). (n, o)) m.given m.holds
-      ∙ ap (λ (text : List ℕ). (length (part (length out) from text), part (length out) from text ++ drop (length (part (length out) from text)) out)) same
+-- the part of a text that has room, the rest of the buffer as it came
+abbrev placed : List ℕ → ℕ → List ℕ → ℕ × List ℕ
+placed text from out = let given : List ℕ = part (length out) from text in (length given, given ++ drop (length given) out)
 
-  pub text-printed : d.verdict ≡ Verdict.Accepted → s ≡ added_all (lines_of d) (begun from, out) → (s.0.given, s.1) ≡ printing (reply_of d) from out
-  unfolding printing printed
-  text-printed h e =
-      let m : Made (joined_lines (lines_of d)) from out s = rw e (made (lines_of d) (ready-pieces d) from out) in
-      let same : joined_lines (lines_of d) ≡ printed (reply_of d) = sym (ap printed (reply-accepted d h)) in
-      ap₂ (λ (n : ℕ) (o : List ℕ). (n, o)) m.given m.holds
-      ∙ ap (λ (text : List ℕ). (length (part (length out) from text), part (length out) from text ++ drop (length (part (length out) from text)) out)) same
+module _ {ready : Result Ready Refused} where
+  pub refused-printed : {why : Refused} → ready ≡ Err why → (from : ℕ) (out : List ℕ) (s : Lent) → s ≡ added (printed (refuses why.refusal why.line)) (begun from, out)
+      → (s.0.given, s.1) ≡ printing (reply_of ready) from out
+  unfolding printing joined_lines reply_of
+  refused-printed {why} h from out s e =
+      let l : List ℕ = printed (refuses why.refusal why.line) in
+      let m : Made (joined_lines (l ∷ [])) from out s = rw (e, ← all_one l (begun from, out)) (made (l ∷ []) (piece (refused-ended why.refusal why.line) no-piece) from out) in
+      rw h (ap₂ (λ (n : ℕ) (o : List ℕ). (n, o)) m.given m.holds ∙ ap (λ (text : List ℕ). placed text from out) (append-nil l))
+
+  pub text-printed : {d : Ready} → ready ≡ Ok d → (from : ℕ) (out : List ℕ) (s : Lent) → s ≡ added_all (lines_of ready) (begun from, out)
+      → (s.0.given, s.1) ≡ printing (reply_of ready) from out
+  unfolding printing printed reply_of lines_of
+  text-printed {d} h from out s e =
+      let m : Made (joined_lines (lines_of ready)) from out s = rw e (made (lines_of ready) (ready-pieces ready) from out) in
+      let same : printed (reply_of ready) ≡ joined_lines (lines_of ready) = rw h refl in
+      ap₂ (λ (n : ℕ) (o : List ℕ). (n, o)) m.given m.holds ∙ ap (λ (text : List ℕ). placed text from out) (sym same)
 
 -- no more than there is room for
 pub printed-few : (reply : Reply) (from : ℕ) (out : List ℕ) (r : ℕ) (after : List ℕ) → ◌≡◌ {A = ℕ × List ℕ} (r, after) (printing reply from out) → length after ≡ length out → r ≤ length after
@@ -86,21 +90,14 @@ fit-wider h fit_none = fit_none
 fit-wider h (fit-more {l = l} f fs) = fit-more {l = l} (omega arith) (fit-wider h fs)
 
 module _ (w : Wanted) (s : List ℕ) (room : ℕ) (enough : longest_line ≤ room) where
-  abbrev text : List ℕ
-  text = printed (reply_of (ready w s))
-
-  by-verdict : (v : Verdict) → (ready w s).verdict ≡ v → gathered room (length text) text ≡ text
-  unfolding printed joined_lines
-  by-verdict Verdict.Accepted h =
-      let same : joined_lines (lines_of (ready w s)) ≡ text = sym (ap printed (reply-accepted (ready w s) h)) in
-      subst (λ (t : List ℕ). gathered room (length t) t ≡ t) same (gathered-all room (lines_of (ready w s)) (ready-pieces (ready w s)) (fit-wider enough (reply-fits w s)))
-  by-verdict (Verdict.Refused r k) h =
-      let l : List ℕ = printed (refuses r k) in
-      let few : k < 100000 = subst Small (reply-refused (ready w s) r k h) (reply-small w s) in
-      let same : joined_lines (l ∷ []) ≡ text = append-nil l ∙ sym (ap printed (reply-refused (ready w s) r k h)) in
-      subst (λ (t : List ℕ). gathered room (length t) t ≡ t) same
-      (gathered-all room (l ∷ []) (piece (refused-ended r k) no-piece) (fit-more {l = l} (omega (arith, refusal-length 4 r k few)) fit_none))
+  by-ready : (d : Result Ready Refused) → Small (reply_of d) → AllFit longest_line (lines_of d) → gathered room (length (printed (reply_of d))) (printed (reply_of d)) ≡ printed (reply_of d)
+  unfolding printed joined_lines reply_of lines_of
+  by-ready (Ok d) few fits = gathered-all room (lines_of (Ok d)) (ready-pieces (Ok d)) (fit-wider enough fits)
+  by-ready (Err why) few fits =
+      let l : List ℕ = printed (refuses why.refusal why.line) in
+      subst (λ (t : List ℕ). gathered room (length t) t ≡ t) (append-nil l)
+      (gathered-all room (l ∷ []) (piece (refused-ended why.refusal why.line) no-piece) (fit-more {l = l} (omega (arith, refusal-length 4 why.refusal why.line few)) fit_none))
 
   -- a program that prints parts until none is given prints the reply, byte for byte
   pub parts-are-all : gathered room (length (printed (reply_to w s))) (printed (reply_to w s)) ≡ printed (reply_to w s)
-  parts-are-all = subst (λ (x : Reply). gathered room (length (printed x)) (printed x) ≡ printed x) (reply-is w s) (by-verdict (ready w s).verdict refl)
+  parts-are-all = subst (λ (x : Reply). gathered room (length (printed x)) (printed x) ≡ printed x) (reply-is w s) (by-ready (ready w s) (reply-small w s) (reply-fits w s))

@@ -1,20 +1,18 @@
 -- What is printed of a listing: the part of it that has room, from a byte on.
-use Rattle.std.specs.Prelude.{Bool, cond, List, ◌++◌, ℕ, length, drop}
+use Rattle.std.specs.Prelude.{Bool, cond, List, ◌++◌, ℕ, length, drop, Result}
 use Rattle.rules.specs.Answers.{Reply, printed}
 use Rattle.rules.specs.Parts.{part}
-use Rattle.rules.specs.declared.Verdict.{Verdict}
 use Rattle.rules.specs.declared.Refusal.TheVariants.{Limit}
 use Rattle.host_replies.specs.Ready.{ready}
 use Rattle.host_replies.specs.declared.Ready.{Ready}
 use Rattle.host_replies.specs.declared.plans.Wanted.{Wanted}
+use Rattle.rules.specs.Refusals.{refused}
+use Rattle.rules.specs.declared.Refused.{Refused}
 
--- refused 2 at line 0, whatever its bytes
-abbrev pub too_long : Ready → Ready
-too_long d = record { text = d.text; verdict = Verdict.Refused Limit 0; listing = d.listing; encoding = d.encoding }
-
-unfoldable pub ready_for : Wanted → List ℕ → Bool → Ready
+-- too long where more follows, whatever its bytes
+unfoldable pub ready_for : Wanted → List ℕ → Bool → Result Ready Refused
 unfolding ready
-ready_for w s more = cond more (too_long (ready w s)) (ready w s)
+ready_for w s more = cond more (refused Limit 0) (ready w s)
 
 -- how many bytes, and the buffer that they stand at the start of, the rest of it as it came
 unfoldable pub printing : Reply → ℕ → List ℕ → ℕ × List ℕ

@@ -1,18 +1,17 @@
 -- Parts, one after the other, are all that is ready; and what is read of any bytes, and whether more follow, is enough to answer to them.
-use Rattle.std.proofs.Common.{◌≡◌, ℕ, zero, suc, ◌+◌, ◌-◌, ◌≤◌, ◌<◌, Bool, true, false, cond, ◌&&◌, leb, ltb, List, [], ◌∷◌, ◌++◌, None, Some, IfSome, Result, Ok, Err, OnOk, inl, inr, length, take, drop, refl, sym, ap, ap₂, subst, ◌∙◌, append_assoc, append-nil, arith}
+use Rattle.std.proofs.Common.{◌≡◌, ℕ, zero, suc, ◌+◌, ◌-◌, ◌≤◌, ◌<◌, Bool, true, false, cond, ◌&&◌, leb, ltb, List, [], ◌∷◌, ◌++◌, IfSome, OnOk, inl, inr, length, take, drop, refl, sym, ap, ap₂, subst, ◌∙◌, append_assoc, append-nil, arith}
 use Rattle.std.proofs.lemmas.Bool.{and_parts, and_cases}
 use Rattle.std.proofs.lemmas.List.{length-append, take_at}
 use borrow.Author.Tests.{ltb-true, ltb-false, leb-true, leb-false, lt-ltb, le-ltb}
-use Rattle.std.specs.declared.option.Option.{Option}
 use Rattle.std.specs.Io.KnownBytes.{Appends, Consumes, IsAtEnd}
 use Rattle.rules.specs.Report.{joined_lines}
-use Rattle.rules.specs.Answers.{Reply, says, refuses, printed}
+use Rattle.rules.specs.Answers.{Reply, says, refuses, printed, on_reading}
 use Rattle.rules.specs.NamesText.{names_text}
 use Rattle.rules.specs.Kiss.{kiss_reading}
 use Rattle.rules.specs.KissAnswers.{kiss_names, kiss_names_reply}
 use Rattle.rules.specs.Parts.{part, gathered}
 use Rattle.rules.specs.declared.Refusal.TheVariants.{Limit}
-use Rattle.rules.specs.declared.Verdict.{Verdict}
+use Rattle.rules.specs.Listing.{Reading}
 use Rattle.rules.proofs.KissSound.{kiss-line}
 use Rattle.rules.proofs.KissNamed.{kiss-names-few}
 use Rattle.rules.proofs.Ended.{no-piece, piece}
@@ -27,6 +26,7 @@ use Rattle.host_replies.proofs.Replies.{reply-is}
 use Rattle.host_prints.specs.Printing.{ready_for, printing}
 use Rattle.host_prints.proofs.Printing.{parts-are-all}
 use Rattle.host_programs.specs.Printed.{unless_long, parts_of}
+use Rattle.std.specs.Prelude.{Ok, Err, Result, Some, None, Option}
 
 -- ---- what is written
 
@@ -144,11 +144,11 @@ module _ (n : ℕ) (fits : n ≤ 65536) (f : List ℕ → Reply) (given : List �
 
 few : (s : List ℕ) → length (printed (kiss_names_reply s)) ≤ 65536
 unfolding kiss_names_reply printed
-few s = go (kiss_reading s).verdict refl
+few s = go (kiss_reading s) refl
   where
-    go : (v : Verdict) → (kiss_reading s).verdict ≡ v → length (printed (elim v [ Verdict.Accepted ↦ says (names_text (kiss_names s)) | Verdict.Refused r k ↦ refuses r k ])) ≤ 65536
-    go Verdict.Accepted e = omega (arith, kiss-names-few s e)
-    go (Verdict.Refused r k) e = omega (arith, refusal-length 4 r k (kiss-line s r k e))
+    go : (r : Reading) → kiss_reading s ≡ r → length (printed (on_reading r (λ t. says (names_text (kiss_names s))))) ≤ 65536
+    go (Ok t) e = omega (arith, kiss-names-few s e)
+    go (Err why) e = omega (arith, refusal-length 4 why.refusal why.line (kiss-line s why.refusal why.line e))
 
 pub names-fit : (s : List ℕ) (more : Bool) → length (printed (cond more (refuses Limit 0) (kiss_names_reply s))) ≤ 65536
 names-fit s true = omega (arith, refusal-length 4 Limit 0 (omega arith))

@@ -13,6 +13,7 @@ ghost use Rattle.host_programs.specs.Printed.{answer_to, names_answer, parts_of}
 
 use host_replies::Ready;
 use host_replies::plans::Wanted;
+use rules::Refused;
 use std::env::FillError;
 use std::fs;
 use std::io::{self, Read, Write};
@@ -78,7 +79,7 @@ pub fn fill<R: Read>(input: &mut R, bytes: &mut [u8], held: usize) -> io::Result
     ensures end { IfOk result (λ filled. filled < length bytes.new → IsAtEnd (R.remaining input.new)) }
     ensures failed { OnErr result (StartsWith bytes.new (take held bytes.old)) }
 {
-    let mut filled = sets::least(held, bytes.len());
+    let mut filled = held.min(bytes.len());
     while filled < bytes.len() {
         let read = input.read(&mut bytes[filled..])?;
         if read == 0 {
@@ -116,7 +117,7 @@ pub fn goes_on<R: Read>(input: &mut R, read: usize) -> io::Result<bool>
 }
 
 // Prints what is ready, one part after the other, until there is no more or it cannot be written.
-fn print_all<W: Write>(ready: Ready, part: &mut [u8], output: &mut W) -> io::Result<()>
+fn print_all<W: Write>(ready: Result<Ready, Refused>, part: &mut [u8], output: &mut W) -> io::Result<()>
     requires { length (printed (reply_of ready)) < 2 ^ 64 }
     ensures { OnOk result (Appends (W.contents output.old) (W.contents output.new) (parts_of (length part.old) ready)) }
 {
@@ -152,6 +153,5 @@ pub fn run_names<R: Read, W: Write>(input: &mut R, output: &mut W) -> io::Result
     let more = goes_on(input, read)?;
     let mut out = [0u8; rules::MOST_BYTES];
     let written = host_names::print_names(&mut out, &text[..read], more);
-    let end = sets::least(written, rules::MOST_BYTES);
-    output.write_all(&out[..end])
+    output.write_all(&out[..written.min(rules::MOST_BYTES)])
 }

@@ -14,13 +14,13 @@ use Rattle.host_names.proofs.print_names.Goals as goal
 by-more : (s : List ℕ) {more b : Bool} {x : Reply} → more ≡ b → cond b (refuses Limit 0) (kiss_names_reply s) ≡ x → printed x ≡ printed (cond more (refuses Limit 0) (kiss_names_reply s))
 by-more s e h = ap printed (sym h ∙ sym (ap (λ (b : Bool). cond b (refuses Limit 0) (kiss_names_reply s)) e))
 
-pub returns-in-Refused : goal.returns-in-Refused
-returns-in-Refused c =
+pub returns-in-Err : goal.returns-in-Err
+returns-in-Err c =
     let s = c.args.bytes.now in
-    wrote_as c.put_refusal-in-Refused.ensures (by-more s c.if-more.false (names-refused s _ _ c.read_named-named.ensures _ _ c.in-Refused.is))
+    wrote_as c.put_refusal-in-Err.ensures (by-more s c.if-more.false (names-refused s c.in-Err.ensures))
 
-pub returns-in-Accepted : goal.returns-in-Accepted
+pub returns-in-Ok : goal.returns-in-Ok
 unfolding printed
-returns-in-Accepted c =
+returns-in-Ok c =
     let s = c.args.bytes.now in
-    wrote_as c.put_names.ensures (by-more s c.if-more.false (names-accepted s _ _ c.read_named-named.ensures c.in-Accepted.is))
+    wrote_as c.put_names.ensures (by-more s c.if-more.false (names-accepted s c.in-Ok.ensures))

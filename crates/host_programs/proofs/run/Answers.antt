@@ -7,10 +7,12 @@ use Rattle.host_replies.specs.declared.Ready.{Ready}
 use Rattle.host_prints.proofs.Printing.{printed-short}
 use Rattle.host_programs.specs.Printed.{answer_to, parts_of}
 use Rattle.host_programs.proofs.Answered.{parts-whole, answered-ok}
+use Rattle.rules.specs.declared.Refused.{Refused}
+use Rattle.std.specs.Prelude.{Result}
 use Rattle.host_programs.proofs.run.Goals as goal
 
 pub print_all-requires : goal.print_all-requires
-print_all-requires g c = subst (λ (d : Ready). length (printed (reply_of d)) < 2 ^ 64) (sym c.prepare-ready.ensures) (printed-short c.args.wanted _ c.in_ok-more.more)
+print_all-requires g c = subst (λ (d : Result Ready Refused). length (printed (reply_of d)) < 2 ^ 64) (sym c.prepare-ready.ensures) (printed-short c.args.wanted _ c.in_ok-more.more)
 
 pub returns : goal.returns
 unfolding answer_to

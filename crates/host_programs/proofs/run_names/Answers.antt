@@ -19,8 +19,8 @@ returns g c =
     let more = c.in_ok-more.more in
     let wrote = c.print_names-written.ensures in
     let short = names-fit (take n bytes) more in
-    let all : c.least-end.result ≡ c.print_names-written.result = omega (arith, c.least-end.ensures, wrote.ends, short) in
-    let whole : take c.least-end.result c.print_names-written.new.out ≡ printed (cond more (refuses Limit 0) (kiss_names_reply (take n bytes)))
+    let all : c.min.result ≡ c.print_names-written.result = omega (arith, c.min.ensures, wrote.ends, short) in
+    let whole : take c.min.result c.print_names-written.new.out ≡ printed (cond more (refuses Limit 0) (kiss_names_reply (take n bytes)))
     = ap (λ m. take m c.print_names-written.new.out) all ∙ wrote-part wrote (search rules) in
     answered-ok n fits kiss_names_reply (take n bytes) (length-take-le n bytes read.within) c.write_all.result
     (g.R.Read.remaining c.args.input.now) (g.R.Read.remaining c.fill.new.input) (g.W.Write.contents c.args.output.now) (g.W.Write.contents c.write_all.new.self) more
