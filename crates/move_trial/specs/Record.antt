@@ -1,5 +1,5 @@
 -- The trial record as code holds it, and what a start and a move make of it, field by field, on any record at all.
-use Rattle.std.specs.Prelude.{ℕ, ◌+◌, ◌*◌, ◌%◌, ◌^◌, cond, List, [], ◌∷◌, length, take, replicate, ℤ, pos, bit_or, nat_lt, slice_index}
+use Rattle.std.specs.Prelude.{ℕ, ◌+◌, ◌*◌, ◌%◌, ◌^◌, cond, List, [], ◌∷◌, length, take, replicate, ℤ, pos, bit_or, nat_lt, slice_index, Ok}
 use Rattle.std.proofs.lemmas.List.Edits.{sets}
 use Rattle.std.proofs.Math.IntN.{sub_ℕ}
 use Rattle.sets.specs.Sets.{flip}
@@ -7,7 +7,7 @@ use Rattle.rules.specs.Limits.{most_trial}
 use Rattle.rules.specs.Trial.{startable}
 use Rattle.rules.specs.declared.Requirement.{Requirement}
 use Rattle.rules.specs.declared.StateNumber.{StateNumber}
-use Rattle.rules.specs.declared.Verdict.{Verdict}
+use Rattle.rules.specs.Refusals.{refused}
 use Rattle.rules.specs.declared.Refusal.TheVariants.{BadCall}
 use Rattle.move_table.specs.Table.{level}
 use Rattle.families.specs.Families.{requirements_in}
@@ -19,10 +19,10 @@ use Rattle.move_trial.specs.declared.Answer.{Answer}
 -- ---- what an answer is
 
 abbrev pub taken : Trial → Answer
-taken t = record { verdict = Verdict.Accepted; trial = t }
+taken t = record { verdict = Ok tt; trial = t }
 
 abbrev pub turned_down : Trial → Answer
-turned_down t = record { verdict = Verdict.Refused BadCall 0; trial = t }
+turned_down t = record { verdict = refused BadCall 0; trial = t }
 
 -- ---- a start
 

@@ -11,6 +11,8 @@ ghost use Rattle.families.specs.Families.{requirements_in};
 ghost use Rattle.move_table.specs.Moves.{filled};
 ghost use Rattle.move_trial.specs.Record.{stored, taken, turned_down, none, shown, start_of, next_of, move_of, gain_of};
 
+use rules::{Refusal, Refused};
+
 // Three words for each of the most requirements.
 const WORDS: usize = 768;
 
@@ -28,10 +30,10 @@ pub struct Trial {
     pub table: [u32; 64],
 }
 
-// What a start or a move answers: the record, and whether the call was accepted.
+// What a start or a move answers: the record, and whether the call was accepted. A refused call hands back a record too, so the two stand side by side.
 #[derive(Clone, Copy)]
 pub struct Answer {
-    pub verdict: rules::Verdict,
+    pub verdict: Result<(), Refused>,
     pub trial: Trial,
 }
 
@@ -98,7 +100,7 @@ fn accepted(t: Trial) -> Answer
     ensures { result ≡ taken t }
 {
     Answer {
-        verdict: rules::Verdict::Accepted,
+        verdict: Ok(()),
         trial: t,
     }
 }
@@ -107,7 +109,7 @@ fn refused(t: Trial) -> Answer
     ensures { result ≡ turned_down t }
 {
     Answer {
-        verdict: rules::Verdict::Refused(rules::Refusal::BadCall, 0),
+        verdict: Err(Refusal::BadCall.at(0)),
         trial: t,
     }
 }
@@ -176,11 +178,12 @@ impl Trial {
 }
 
 // 0 for a call that is accepted, else the number of its refusal.
-pub fn number_of(v: rules::Verdict) -> u32
+#[tactic(auto, unfolding(rules::specs::Cases::verdict_numbers))]
+pub fn number_of(v: Result<(), Refused>) -> u32
     ensures { result ≡ (verdict_numbers v).refusal }
 {
     match v {
-        rules::Verdict::Accepted => 0,
-        rules::Verdict::Refused(r, _) => r.number_of(),
+        Ok(()) => 0,
+        Err(why) => why.refusal.number_of(),
     }
 }

@@ -11,12 +11,13 @@ use mir.Val.{to_z, of_z}
 use mir.Facts.{to_z-of_z}
 use lib.Dec.{leb}
 use lib.ListN.{length, drop, length-drop, length-append}
-use Rattle.rules.specs.Refusals.{minus}
+use Rattle.std.specs.Prelude.{Result, Ok}
+use Rattle.rules.specs.Refusals.{minus, refused}
 use Rattle.rules.specs.Answers.{Reply, says, refuses, answered}
 use Rattle.rules.specs.Parts.{whole_lines, part, gets_on, answered_part}
 use Rattle.rules.specs.declared.Refusal.TheVariants.{NoRoom}
+use Rattle.rules.specs.declared.Refused.{Refused}
 use Rattle.rules.proofs.Parts.{whole-front}
-use Rattle.host_replies.specs.declared.Said.{Said}
 use Rattle.host_replies.specs.Saying.{saying, saying_part}
 use Rattle.host_replies.proofs.Replies.{Small}
 use Rattle.host_replay.proofs.Replies.{SmallRun}
@@ -24,7 +25,7 @@ use Rattle.host_check.proofs.Room.{Room}
 use Rattle.tsurmokan.specs.Signed.{signed, Within}
 
 -- a number of 64 bits, read back as it was
-pub back : {z : ℤ} → mag z < 9223372036854775808 → to_z w64 (of_z w64 z) ≡ z
+back : {z : ℤ} → mag z < 9223372036854775808 → to_z w64 (of_z w64 z) ≡ z
 back h = to_z-of_z {w = w64} (record { sfits = h })
 
 -- a part is no longer than the text
@@ -40,8 +41,8 @@ part-short room from text =
     )
 
 -- a text that was given, or none for want of room, as a number
-abbrev given : Bool → ℕ → List ℕ → List ℕ → Said × List ℕ
-given b n text out = cond b (Said.Text n, text) (Said.Refused NoRoom 0, out)
+abbrev given : Bool → ℕ → List ℕ → List ℕ → Result ℕ Refused × List ℕ
+given b n text out = cond b (Ok n, text) (refused NoRoom 0, out)
 
 as_number : (b : Bool) (n : ℕ) (text out : List ℕ) → ◌≡◌ {A = ℤ × List ℕ} (signed (given b n text out).0, (given b n text out).1) (cond b (pos n, text) (minus NoRoom 0, out))
 unfolding signed
@@ -74,7 +75,7 @@ check-short (refuses r line) h = h
 -- ---- what was said is the answer, and small enough for its number
 
 -- of a reply: what is said, and what a C host gets
-pub record Told (said : Said × List ℕ) (answer : ℤ × List ℕ) : Type 0 where
+pub record Told (said : Result ℕ Refused × List ℕ) (answer : ℤ × List ℕ) : Type 0 where
   pub same : ◌≡◌ {A = ℤ × List ℕ} (signed said.0, said.1) answer
   pub within : Within said.0
 
@@ -98,9 +99,10 @@ told_part (says text) h from out =
     }
 told_part (refuses r line) h from out = record { same = refl; within = h }
 
-module _ (said : Said) (after : List ℕ) (reply : Said × List ℕ) (answer : ℤ × List ℕ) (t : Told reply answer) (e : ◌≡◌ {A = Said × List ℕ} (said, after) reply) where
+module _ {said : Result ℕ Refused} {after : List ℕ} {reply : Result ℕ Refused × List ℕ} {answer : ℤ × List ℕ} (t : Told reply answer)
+    (e : ◌≡◌ {A = Result ℕ Refused × List ℕ} (said, after) reply) where
   pub said-within : Within said
-  said-within = subst Within (sym (ap (λ (p : Said × List ℕ). p.0) e)) t.within
+  said-within = subst Within (sym (ap (λ (p : Result ℕ Refused × List ℕ). p.0) e)) t.within
 
-  pub number-given : (r : ℤ) → r ≡ signed said → ◌≡◌ {A = ℤ × List ℕ} (r, after) answer
-  number-given r h = ap (λ (x : ℤ). (x, after)) h ∙ ap (λ (p : Said × List ℕ). (signed p.0, p.1)) e ∙ t.same
+  pub number-given : {r : ℤ} → mag r < 9223372036854775808 → r ≡ signed said → ◌≡◌ {A = ℤ × List ℕ} (to_z w64 (of_z w64 r), after) answer
+  number-given fits h = ap (λ (x : ℤ). (x, after)) (back fits ∙ h) ∙ ap (λ (p : Result ℕ Refused × List ℕ). (signed p.0, p.1)) e ∙ t.same

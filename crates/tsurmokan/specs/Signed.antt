@@ -1,14 +1,14 @@
 -- What was said, as one signed number: 01's "The listing's bytes and an output buffer".
-use Rattle.std.specs.Prelude.{◌<◌, ℤ, pos}
+use Rattle.std.specs.Prelude.{ℕ, ◌<◌, ℤ, pos, Result, Ok, Err}
 use Rattle.rules.specs.Refusals.{minus}
-use Rattle.host_replies.specs.declared.Said.{Said}
+use Rattle.rules.specs.declared.Refused.{Refused}
 
-unfoldable pub signed : Said → ℤ
+unfoldable pub signed : Result ℕ Refused → ℤ
 unfolding minus
-signed (Said.Text n) = pos n
-signed (Said.Refused r line) = minus r line
+signed (Ok n) = pos n
+signed (Err why) = minus why.refusal why.line
 
 -- such that the number tells it
-abbrev pub Within : Said → Type 0
-Within (Said.Text n) = n < 9223372036854775808
-Within (Said.Refused r line) = line < 100000
+abbrev pub Within : Result ℕ Refused → Type 0
+Within (Ok n) = n < 9223372036854775808
+Within (Err why) = why.line < 100000

@@ -1,5 +1,6 @@
 // The library for a C host: a listing's bytes and an output buffer in, and the length of the text, or minus (number × 100,000 + line), out.
-#![tactic(auto)]
+// Entries that differ only in what is wanted stay apart, since a C host calls each by its own symbol.
+#![tactic(auto, unfolding(host_replies::specs::Saying::reply_to))]
 
 mod checks;
 mod numbers;

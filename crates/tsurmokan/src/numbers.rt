@@ -8,6 +8,7 @@ ghost use Rattle.host_replies.specs.Saying.{reply_to};
 ghost use Rattle.tsurmokan.specs.Signed.{signed, Within};
 
 use host_replies::plans::Wanted;
+use rules::Refused;
 
 // The length of a text.
 fn length_of(n: usize) -> i64
@@ -18,22 +19,23 @@ fn length_of(n: usize) -> i64
 }
 
 // A refusal at a line. A listing has at most 65,536 bytes, so the line is at most 65,537, one past the last.
-fn minus_of(refusal: rules::Refusal, line: usize) -> i64
-    requires { line < 100000 }
-    ensures { result ≡ minus refusal line }
+fn minus_of(why: Refused) -> i64
+    requires { why.line < 100000 }
+    ensures { result ≡ minus why.refusal why.line }
 {
-    let m = refusal.number_of() as u64 * 100000 + line as u64;
+    let m = why.refusal.number_of() as u64 * 100000 + why.line as u64;
     -(m as i64)
 }
 
-// What was said, as one signed number.
-pub fn number_of(said: host_replies::Said) -> i64
+// What was said, as the one signed number that a C host takes for it.
+#[tactic(auto, unfolding(crate::specs::Signed::signed))]
+pub fn number_of(said: Result<usize, Refused>) -> i64
     requires { Within said }
     ensures { result ≡ signed said }
 {
     match said {
-        host_replies::Said::Text(n) => length_of(n),
-        host_replies::Said::Refused(r, line) => minus_of(r, line),
+        Ok(n) => length_of(n),
+        Err(why) => minus_of(why),
     }
 }
 

@@ -4,7 +4,7 @@ ghost use Rattle.rules.specs.Cases.{verdict_numbers};
 ghost use Rattle.move_trial.specs.Record.{start_of, move_of, gain_of};
 ghost use Rattle.tsurmokan.specs.Started.{numbered};
 
-// What a start answers: 0 or the number of its refusal, and the record, the empty one where it is refused.
+// What a start answers: 0 or the number of its refusal, and the record, the empty one where it is refused. The refusal is a number for C, which has no `Result`.
 #[repr(C)]
 #[derive(Clone, Copy)]
 pub struct Started {
@@ -13,14 +13,13 @@ pub struct Started {
 }
 
 // An answer with its verdict as a number.
+#[tactic(auto, unfolding(crate::specs::Started::numbered))]
 fn numbered_of(a: move_trial::Answer) -> Started
     ensures { result ≡ numbered a }
 {
-    let verdict = a.verdict;
-    let trial = a.trial;
     Started {
-        refusal: move_trial::number_of(verdict),
-        trial,
+        refusal: move_trial::number_of(a.verdict),
+        trial: a.trial,
     }
 }
 

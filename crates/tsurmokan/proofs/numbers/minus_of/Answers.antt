@@ -10,4 +10,4 @@ use Rattle.tsurmokan.proofs.numbers.minus_of.Goals as goal
 pub returns : goal.returns
 unfolding minus
 returns c =
-    minus_is (c.number_of.result * 100000 + c.args.line) (omega arith) ∙ ap (λ (n : ℕ). neg_ℤ (pos (n * 100000 + c.args.line))) c.number_of.ensures
+    minus_is (c.number_of.result * 100000 + c.args.why.line) (omega arith) ∙ ap (λ (n : ℕ). neg_ℤ (pos (n * 100000 + c.args.why.line))) c.number_of.ensures
