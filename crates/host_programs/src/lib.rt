@@ -96,13 +96,10 @@ pub fn move_up(bytes: &mut [u8], from: usize, end: usize) -> usize
     ensures bytes { bytes.new ≡ moved_up from end bytes.old }
     ensures within { result ≤ length bytes.new }
 {
-    let stop = sets::least(end, bytes.len());
-    let mut k: usize = 0;
-    while from < stop - k {
-        bytes[k] = bytes[from + k];
-        k += 1;
-    }
-    k
+    let stop = end.min(bytes.len());
+    let count = stop.saturating_sub(from);
+    bytes.copy_within(stop - count..stop, 0);
+    count
 }
 
 // Whether a listing goes on behind the bytes read: where they fill the buffer, one more is tried.
@@ -117,7 +114,11 @@ pub fn goes_on<R: Read>(input: &mut R, read: usize) -> io::Result<bool>
 }
 
 // Prints what is ready, one part after the other, until there is no more or it cannot be written.
-fn print_all<W: Write>(ready: Result<Ready, Refused>, part: &mut [u8], output: &mut W) -> io::Result<()>
+fn print_all<W: Write>(
+    ready: Result<Ready, Refused>,
+    part: &mut [u8],
+    output: &mut W,
+) -> io::Result<()>
     requires { length (printed (reply_of ready)) < 2 ^ 64 }
     ensures { OnOk result (Appends (W.contents output.old) (W.contents output.new) (parts_of (length part.old) ready)) }
 {
