@@ -2,7 +2,7 @@
 // the groups and the dichotomies of a listing are families.
 #![tactic(auto)]
 
-ghost use Rattle.std.specs.Prelude.{◌≡◌, ◌-◌, ◌<◌, length};
+ghost use Rattle.std.specs.Prelude.{◌≡◌, slice_set};
 ghost use Rattle.families.specs.Families.{without, laid};
 
 // m without the members of x.
@@ -12,12 +12,20 @@ pub fn without_of(m: u64, x: u64) -> u64
     m ^ (m & x)
 }
 
-// A family's three numbers, from place `at` of a list on.
+// A word at a place of a list, where there is that place.
+fn put_word(fs: &mut [u64], at: usize, word: u64)
+    ensures { fs.new ≡ slice_set fs.old at word }
+{
+    if at < fs.len() {
+        fs[at] = word;
+    }
+}
+
+// A family's three numbers, from place `at` of a list on; those that have no place there are lost.
 pub fn put(fs: &mut [u64], at: usize, all: u64, flip: u64, out: u64)
-    requires { 2 < length fs.old - at }
     ensures { fs.new ≡ laid at all flip out fs.old }
 {
-    fs[at] = all;
-    fs[at + 1] = flip;
-    fs[at + 2] = out;
+    put_word(fs, at, all);
+    put_word(fs, at.saturating_add(1), flip);
+    put_word(fs, at.saturating_add(2), out);
 }
