@@ -34,7 +34,12 @@ fn coded_as(n: usize, asked: usize, code: &[usize]) -> Encoding
 }
 
 // The answer for what a search found in the first of these places.
-fn found_as(n: usize, asked: usize, found: Option<usize>, code: &[usize]) -> Result<Encoding, Refused>
+fn found_as(
+    n: usize,
+    asked: usize,
+    found: Option<usize>,
+    code: &[usize],
+) -> Result<Encoding, Refused>
     requires { (n ≤ most_states) × Within found code.now }
     ensures { result ≡ found_as n asked found code.now }
 {

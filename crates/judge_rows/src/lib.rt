@@ -102,7 +102,10 @@ fn marks_of(f: &[u8]) -> Marks
     let Some(places) = read_fields::places_in(f, 64, n, b'0', b'1', b'-') else {
         return Marks { ones: 0, dashes: 0 };
     };
-    Marks { ones: places.second, dashes: places.third }
+    Marks {
+        ones: places.second,
+        dashes: places.third,
+    }
 }
 
 // 1 where characters take a code.

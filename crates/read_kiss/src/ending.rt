@@ -81,7 +81,12 @@ pub fn after_end(k: usize, rest: &[u8]) -> Result<(), Refused>
 }
 
 // When all lines are read, behind n names: 12, then 6.
-pub fn finish(h: KissHeads, n: usize, rows: usize, table: [Row; rules::MOST_ROWS]) -> Result<Listing, Refused>
+pub fn finish(
+    h: KissHeads,
+    n: usize,
+    rows: usize,
+    table: [Row; rules::MOST_ROWS],
+) -> Result<Listing, Refused>
     requires { n ≤ most_states }
     ensures { result ≡ kiss_made h n rows table }
 {
