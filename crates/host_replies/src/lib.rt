@@ -4,7 +4,7 @@
 
 pub mod plans;
 
-ghost use Rattle.std.specs.Prelude.{◌≡◌, ◌≤◌, ltb, length};
+ghost use Rattle.std.specs.Prelude.{◌≡◌, ◌≤◌, ltb, length, Ok};
 ghost use Rattle.rules.specs.Answers.{says};
 ghost use Rattle.rules.specs.Kiss.{kiss_reading};
 ghost use Rattle.rules.specs.Listing.{judged};
@@ -12,10 +12,10 @@ ghost use Rattle.rules.specs.Report.{joined_lines};
 ghost use Rattle.write_parts.specs.Parts.{added_all};
 ghost use Rattle.write_texts.specs.Texts.{text_lines};
 ghost use Rattle.host_replies.specs.Plans.{reading_as, encoded_by};
-ghost use Rattle.host_replies.specs.Ready.{prepared, ready, lines_of, reply_of, longest};
+ghost use Rattle.host_replies.specs.Ready.{prepared, ready, ready_of, lines_of, reply_of, longest};
 ghost use Rattle.host_replies.specs.Saying.{saying, saying_part, reply_to};
 
-use plans::{Form, Wanted, Way};
+use plans::{Form, Plan, Wanted, Way};
 use rules::{Encoding, Listing, Refusal, Refused};
 use write_parts::Part;
 use write_texts::Text;
@@ -49,6 +49,7 @@ fn read_kiss_lent(bytes: &[u8], t: &mut Listing) -> Result<(), Refused>
 }
 
 // Any bytes, read as a text of that form into a listing that is lent. Each reader is called in one place.
+#[inline(never)]
 fn read_lent(form: Form, bytes: &[u8], t: &mut Listing) -> Result<(), Refused>
     ensures { judged result t.new ≡ reading_as form bytes.now }
 {
@@ -78,21 +79,28 @@ fn encode_by(way: Way, t: Listing) -> Result<Encoding, Refused>
     }
 }
 
-// Any bytes, read into a listing that is lent, and coded once for what is wanted: the reader's refusal comes first, then the encoder's, and then, of a cover, 9.
-// The steps have a frame of their own, which is left before anything is written.
+// A listing that is lent, coded once by a plan, in the width that its text asks for: the encoder's refusal comes before that of a cover, 9.
 #[inline(never)]
-fn code_lent(wanted: Wanted, bytes: &[u8], t: &mut Listing) -> Result<Coded, Refused>
-    ensures { prepared t.new result ≡ ready wanted bytes.now }
+fn code_read(plan: Plan, t: &mut Listing) -> Result<Coded, Refused>
+    ensures { prepared t.new result ≡ ready_of plan (Ok t.old) }
 {
-    let plan = plans::plan_of(wanted);
     let text = plan.text;
-    read_lent(plan.form, bytes, t)?;
     let width = plans::width_for(text, t.head.width);
     t.head.width = width;
     let read = *t;
     let encoding = encode_by(plan.way, read)?;
     write_texts::verdict_of(text, read, encoding)?;
     Ok(Coded { text, encoding })
+}
+
+// Any bytes, read into a listing that is lent, and coded once for what is wanted: the reader's refusal comes first. Reading and coding have frames of their own,
+// which are left before the next step.
+fn code_lent(wanted: Wanted, bytes: &[u8], t: &mut Listing) -> Result<Coded, Refused>
+    ensures { prepared t.new result ≡ ready wanted bytes.now }
+{
+    let plan = plans::plan_of(wanted);
+    read_lent(plan.form, bytes, t)?;
+    code_read(plan, t)
 }
 
 // Any bytes, read and coded once for what is wanted.
@@ -119,31 +127,37 @@ pub fn add_text(ready: Result<Ready, Refused>, part: Part, out: &mut [u8]) -> Pa
 }
 
 // Whether a text is longer than so many bytes. Where that is not plain, it is measured: with those passed over, and no room, a line is left.
-fn is_longer(text: Text, t: Listing, e: Encoding, len: usize) -> bool
-    requires { length (joined_lines (text_lines text t e)) ≤ longest }
-    ensures { result ≡ ltb len (length (joined_lines (text_lines text t e))) }
+#[inline(never)]
+fn is_longer(coded: Coded, t: &Listing, len: usize) -> bool
+    requires { length (joined_lines (text_lines coded.text t.now coded.encoding)) ≤ longest }
+    ensures { result ≡ ltb len (length (joined_lines (text_lines coded.text t.now coded.encoding))) }
 {
     if ROOM <= len {
         return false;
     }
     let mut none = [0u8; 1];
-    let measured = write_texts::add_lines(text, t, e, write_parts::begin(len), &mut none[..0]);
+    let measured = write_texts::add_lines(
+        coded.text,
+        *t,
+        coded.encoding,
+        write_parts::begin(len),
+        &mut none[..0],
+    );
     measured.full
 }
 
-// A text, whole, or 10 where it does not fit. What is read does not change any more once it stands here, so that no call makes a copy of it.
+// A text, whole, or 10 where it does not fit.
 #[inline(never)]
 fn say_whole(coded: Coded, t: &Listing, out: &mut [u8]) -> Result<usize, Refused>
     requires { length (joined_lines (text_lines coded.text t.now coded.encoding)) ≤ longest }
     ensures { (result, out.new) ≡ saying (says (joined_lines (text_lines coded.text t.now coded.encoding))) out.old }
 {
-    let read = *t;
-    if is_longer(coded.text, read, coded.encoding, out.len()) {
+    if is_longer(coded, t, out.len()) {
         return Err(Refusal::NoRoom.at(0));
     }
     let written = write_texts::add_lines(
         coded.text,
-        read,
+        *t,
         coded.encoding,
         write_parts::begin(0),
         out,
@@ -156,10 +170,9 @@ fn say_whole(coded: Coded, t: &Listing, out: &mut [u8]) -> Result<usize, Refused
 fn say_piece(coded: Coded, t: &Listing, from: usize, out: &mut [u8]) -> Result<usize, Refused>
     ensures { (result, out.new) ≡ saying_part (says (joined_lines (text_lines coded.text t.now coded.encoding))) from out.old }
 {
-    let read = *t;
     let written = write_texts::add_lines(
         coded.text,
-        read,
+        *t,
         coded.encoding,
         write_parts::begin(from),
         out,
