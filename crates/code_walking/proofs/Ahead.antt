@@ -10,6 +10,7 @@ use lib.ListN.{length, get_or, drop, length-drop}
 use borrow.Author.Tests.{lt-ltb, le-ltb, ltb-true, ltb-false, eq-eqb, ne_eqb, eqb-true, eqb-false}
 use Rattle.sets.specs.Sets.{states_from, without_lowest}
 use Rattle.sets.proofs.LowestMember.{without-none}
+use Rattle.rules.specs.Listing.{no_requirement}
 use Rattle.rules.specs.declared.Requirement.{Requirement}
 use Rattle.families.specs.Families.{without, inside, single, joined, requirements_of, requirements_in}
 use Rattle.families.proofs.Family.{family-one, family-more, none-without}
@@ -119,6 +120,17 @@ entered-ahead fs i = enter-within fs (length fs) i (omega arith)
 -- from the start, all of them
 pub begun-ahead : (fs : List ℕ) → ahead fs (entered fs 0) ≡ requirements_in fs
 begun-ahead fs = entered-ahead fs 0
+
+-- ---- where it is over
+
+module _ (fs : List ℕ) (w : Walk) (h : length fs < w.at + 3) where
+  pub here-over : here fs w ≡ no_requirement
+  unfolding here
+  here-over = rw (lt-ltb (length fs) (w.at + 3) h)
+
+  pub next-over : next fs w ≡ w
+  unfolding next
+  next-over = rw (lt-ltb (length fs) (w.at + 3) h)
 
 -- ---- one step
 

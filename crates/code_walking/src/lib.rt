@@ -10,9 +10,9 @@ use rules::Requirement;
 // Where a walk stands: at the family whose first word has this place, before those of its states outside that are still to come. A family that has no
 // state outside is one requirement.
 #[derive(Clone, Copy)]
-struct Walk {
-    at: usize,
-    rest: u64,
+pub struct Walk {
+    pub at: usize,
+    pub rest: u64,
 }
 
 // The requirements of some families that are still to come.
@@ -47,14 +47,14 @@ impl<'a> Iterator for Requirements<'a> {
         if is_over(self.families, self.walk) {
             return None;
         }
-        let first = requirement(self.families, self.walk);
-        self.walk = step(self.families, self.walk);
+        let first = requirement_of(self.families, self.walk);
+        self.walk = behind(self.families, self.walk);
         Some(first)
     }
 }
 
 // Whether the walk is over: no whole family stands from there on.
-fn is_over(fs: &[u64], w: Walk) -> bool
+pub fn is_over(fs: &[u64], w: Walk) -> bool
     ensures { result ≡ ltb (length fs.now) (w.at + 3) }
 {
     fs.len() < 3 || fs.len() - 3 < w.at
@@ -68,7 +68,7 @@ fn asks_none(out: u64, rest: u64) -> bool
 }
 
 // The walk at the first requirement from that word on.
-fn enter(fs: &[u64], from: usize) -> Walk
+pub fn enter(fs: &[u64], from: usize) -> Walk
     ensures { result ≡ entered fs.now from }
 {
     if fs.len() < 3 {
@@ -87,8 +87,8 @@ fn enter(fs: &[u64], from: usize) -> Walk
     Walk { at, rest: 0 }
 }
 
-// The requirement where the walk stands.
-fn requirement(fs: &[u64], w: Walk) -> Requirement
+// The requirement where the walk stands, in a family that is there.
+fn requirement_of(fs: &[u64], w: Walk) -> Requirement
     requires { w.at + 3 ≤ length fs.now }
     ensures { result ≡ here fs.now w }
 {
@@ -103,8 +103,8 @@ fn requirement(fs: &[u64], w: Walk) -> Requirement
     }
 }
 
-// The walk one requirement further.
-fn step(fs: &[u64], w: Walk) -> Walk
+// The walk one requirement behind a place in a family that is there.
+fn behind(fs: &[u64], w: Walk) -> Walk
     requires { w.at + 3 ≤ length fs.now }
     ensures place { result ≡ next fs.now w }
     ensures behind { ahead fs.now w ≡ here fs.now w ∷ ahead fs.now result }
@@ -114,4 +114,27 @@ fn step(fs: &[u64], w: Walk) -> Walk
         return enter(fs, w.at + 3);
     }
     Walk { at: w.at, rest }
+}
+
+// The requirement where the walk stands; where it is over, one without members.
+pub fn requirement(fs: &[u64], w: Walk) -> Requirement
+    ensures { result ≡ here fs.now w }
+{
+    if is_over(fs, w) {
+        return Requirement {
+            first: 0,
+            second: 0,
+        };
+    }
+    requirement_of(fs, w)
+}
+
+// The walk one requirement further; where it is over it stays.
+pub fn step(fs: &[u64], w: Walk) -> Walk
+    ensures { result ≡ next fs.now w }
+{
+    if is_over(fs, w) {
+        return w;
+    }
+    behind(fs, w)
 }

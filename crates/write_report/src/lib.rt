@@ -110,7 +110,7 @@ fn add_judged(
 }
 
 // 1 for a requirement that no bit meets, else 0.
-fn missed(judged: Option<BitNumber>) -> usize
+pub fn missed(judged: Option<BitNumber>) -> usize
     ensures { result ≡ digit (not (is_by judged)) }
 {
     usize::from(judged.is_none())

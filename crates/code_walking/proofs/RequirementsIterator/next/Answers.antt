@@ -21,9 +21,9 @@ pub returns-clause-steps : goal.returns-clause-steps
 unfolding left
 returns-clause-steps c =
     let fs = c.args.self.now.families.now in
-    c.step-self.ensures.behind ∙ ap (λ (r : Requirement). r ∷ ahead fs c.step-self.result) (sym c.requirement-first.ensures)
+    c.behind-self.ensures.behind ∙ ap (λ (r : Requirement). r ∷ ahead fs c.behind-self.result) (sym c.requirement_of-first.ensures)
 
 pub returns-clause-goes : goal.returns-clause-goes
 unfolding left
 returns-clause-goes c =
-    let shorter = ap length c.step-self.ensures.behind in search rules
+    let shorter = ap length c.behind-self.ensures.behind in search rules
