@@ -20,6 +20,12 @@ abbrev pub prepared : Listing → Result Coded Refused → Result Ready Refused
 prepared t (Ok c) = Ok (record { text = c.text; listing = t; encoding = c.encoding })
 prepared t (Err why) = Err why
 
+-- what is read, in the width that a text asks for
+unfoldable pub widened : Text → Reading → Reading
+unfolding width_for
+widened x (Ok r) = Ok (with_width (width_for x r.head.width) r)
+widened x (Err why) = Err why
+
 -- a text in a code that there is, unless it is withheld
 unfoldable pub ready_in : Text → Listing → Encoding → Result Ready Refused
 unfolding verdict_of

@@ -4,7 +4,7 @@
 
 pub mod plans;
 
-ghost use Rattle.std.specs.Prelude.{◌≡◌, ◌≤◌, ltb, length, Ok};
+ghost use Rattle.std.specs.Prelude.{◌≡◌, ◌≤◌, ltb, length};
 ghost use Rattle.rules.specs.Answers.{says};
 ghost use Rattle.rules.specs.Kiss.{kiss_reading};
 ghost use Rattle.rules.specs.Listing.{judged};
@@ -12,7 +12,7 @@ ghost use Rattle.rules.specs.Report.{joined_lines};
 ghost use Rattle.write_parts.specs.Parts.{added_all};
 ghost use Rattle.write_texts.specs.Texts.{text_lines};
 ghost use Rattle.host_replies.specs.Plans.{reading_as, encoded_by};
-ghost use Rattle.host_replies.specs.Ready.{prepared, ready, ready_of, lines_of, reply_of, longest};
+ghost use Rattle.host_replies.specs.Ready.{prepared, widened, ready, ready_with, lines_of, reply_of, longest};
 ghost use Rattle.host_replies.specs.Saying.{saying, saying_part, reply_to};
 
 use plans::{Form, Plan, Wanted, Way};
@@ -79,36 +79,37 @@ fn encode_by(way: Way, t: Listing) -> Result<Encoding, Refused>
     }
 }
 
-// A listing that is lent, coded once by a plan, in the width that its text asks for: the encoder's refusal comes before that of a cover, 9.
+// Any bytes, read into a listing that is lent, in the width that its text asks for.
+fn read_wanted(plan: Plan, bytes: &[u8], t: &mut Listing) -> Result<(), Refused>
+    ensures { judged result t.new ≡ widened plan.text (reading_as plan.form bytes.now) }
+{
+    read_lent(plan.form, bytes, t)?;
+    let width = plans::width_for(plan.text, t.head.width);
+    t.head.width = width;
+    Ok(())
+}
+
+// A listing, coded once by a plan: the encoder's refusal comes before that of a cover, 9. What that needs has a frame of its own, which is left before a byte is
+// written.
 #[inline(never)]
-fn code_read(plan: Plan, t: &mut Listing) -> Result<Coded, Refused>
-    ensures { prepared t.new result ≡ ready_of plan (Ok t.old) }
+fn code_read(plan: Plan, t: Listing) -> Result<Coded, Refused>
+    ensures { prepared t result ≡ ready_with plan.text t (encoded_by plan.way t) }
 {
     let text = plan.text;
-    let width = plans::width_for(text, t.head.width);
-    t.head.width = width;
-    let read = *t;
-    let encoding = encode_by(plan.way, read)?;
-    write_texts::verdict_of(text, read, encoding)?;
+    let encoding = encode_by(plan.way, t)?;
+    write_texts::verdict_of(text, t, encoding)?;
     Ok(Coded { text, encoding })
 }
 
-// Any bytes, read into a listing that is lent, and coded once for what is wanted: the reader's refusal comes first. Reading and coding have frames of their own,
-// which are left before the next step.
-fn code_lent(wanted: Wanted, bytes: &[u8], t: &mut Listing) -> Result<Coded, Refused>
-    ensures { prepared t.new result ≡ ready wanted bytes.now }
-{
-    let plan = plans::plan_of(wanted);
-    read_lent(plan.form, bytes, t)?;
-    code_read(plan, t)
-}
-
-// Any bytes, read and coded once for what is wanted.
+// Any bytes, read and coded once for what is wanted: the reader's refusal comes first.
 pub fn prepare(wanted: Wanted, bytes: &[u8]) -> Result<Ready, Refused>
     ensures { result ≡ ready wanted bytes.now }
 {
-    let mut t = read_answers::blank_listing();
-    let coded = code_lent(wanted, bytes, &mut t)?;
+    let plan = plans::plan_of(wanted);
+    let mut read = read_answers::blank_listing();
+    read_wanted(plan, bytes, &mut read)?;
+    let t = read;
+    let coded = code_read(plan, t)?;
     Ok(Ready {
         text: coded.text,
         listing: t,
@@ -127,10 +128,9 @@ pub fn add_text(ready: Result<Ready, Refused>, part: Part, out: &mut [u8]) -> Pa
 }
 
 // Whether a text is longer than so many bytes. Where that is not plain, it is measured: with those passed over, and no room, a line is left.
-#[inline(never)]
-fn is_longer(coded: Coded, t: &Listing, len: usize) -> bool
-    requires { length (joined_lines (text_lines coded.text t.now coded.encoding)) ≤ longest }
-    ensures { result ≡ ltb len (length (joined_lines (text_lines coded.text t.now coded.encoding))) }
+fn is_longer(coded: Coded, t: Listing, len: usize) -> bool
+    requires { length (joined_lines (text_lines coded.text t coded.encoding)) ≤ longest }
+    ensures { result ≡ ltb len (length (joined_lines (text_lines coded.text t coded.encoding))) }
 {
     if ROOM <= len {
         return false;
@@ -138,7 +138,7 @@ fn is_longer(coded: Coded, t: &Listing, len: usize) -> bool
     let mut none = [0u8; 1];
     let measured = write_texts::add_lines(
         coded.text,
-        *t,
+        t,
         coded.encoding,
         write_parts::begin(len),
         &mut none[..0],
@@ -147,32 +147,24 @@ fn is_longer(coded: Coded, t: &Listing, len: usize) -> bool
 }
 
 // A text, whole, or 10 where it does not fit.
-#[inline(never)]
-fn say_whole(coded: Coded, t: &Listing, out: &mut [u8]) -> Result<usize, Refused>
-    requires { length (joined_lines (text_lines coded.text t.now coded.encoding)) ≤ longest }
-    ensures { (result, out.new) ≡ saying (says (joined_lines (text_lines coded.text t.now coded.encoding))) out.old }
+fn say_whole(coded: Coded, t: Listing, out: &mut [u8]) -> Result<usize, Refused>
+    requires { length (joined_lines (text_lines coded.text t coded.encoding)) ≤ longest }
+    ensures { (result, out.new) ≡ saying (says (joined_lines (text_lines coded.text t coded.encoding))) out.old }
 {
     if is_longer(coded, t, out.len()) {
         return Err(Refusal::NoRoom.at(0));
     }
-    let written = write_texts::add_lines(
-        coded.text,
-        *t,
-        coded.encoding,
-        write_parts::begin(0),
-        out,
-    );
+    let written = write_texts::add_lines(coded.text, t, coded.encoding, write_parts::begin(0), out);
     Ok(written.given)
 }
 
 // The whole lines of a text that fit, from byte `from` on; none where there is no more, and 10 where the next does not fit.
-#[inline(never)]
-fn say_piece(coded: Coded, t: &Listing, from: usize, out: &mut [u8]) -> Result<usize, Refused>
-    ensures { (result, out.new) ≡ saying_part (says (joined_lines (text_lines coded.text t.now coded.encoding))) from out.old }
+fn say_piece(coded: Coded, t: Listing, from: usize, out: &mut [u8]) -> Result<usize, Refused>
+    ensures { (result, out.new) ≡ saying_part (says (joined_lines (text_lines coded.text t coded.encoding))) from out.old }
 {
     let written = write_texts::add_lines(
         coded.text,
-        *t,
+        t,
         coded.encoding,
         write_parts::begin(from),
         out,
@@ -183,13 +175,18 @@ fn say_piece(coded: Coded, t: &Listing, from: usize, out: &mut [u8]) -> Result<u
     Ok(written.given)
 }
 
-// What is said of any bytes, in a lent buffer: how many bytes the text has, or the refusal and its line. What is read is held but once.
+// What is said of any bytes, in a lent buffer: how many bytes the text has, or the refusal and its line. Reading and coding have frames of their own, which are left
+// before the next step; what measures and writes has none, for it would have a copy there of the listing that it hands on. What is read is held but once: it does
+// not change any more once `t` has it, so that no call makes a copy of it.
 pub fn say(wanted: Wanted, bytes: &[u8], out: &mut [u8]) -> Result<usize, Refused>
     ensures { (result, out.new) ≡ saying (reply_to wanted bytes.now) out.old }
 {
-    let mut t = read_answers::blank_listing();
-    let coded = code_lent(wanted, bytes, &mut t)?;
-    say_whole(coded, &t, out)
+    let plan = plans::plan_of(wanted);
+    let mut read = read_answers::blank_listing();
+    read_wanted(plan, bytes, &mut read)?;
+    let t = read;
+    let coded = code_read(plan, t)?;
+    say_whole(coded, t, out)
 }
 
 // The whole lines of what is ready that fit, from byte `from` on; none where there is no more, and 10 where the next does not fit.
@@ -205,14 +202,17 @@ pub fn say_from(
         text: r.text,
         encoding: r.encoding,
     };
-    say_piece(coded, &r.listing, from, out)
+    say_piece(coded, r.listing, from, out)
 }
 
-// A part of what is said of any bytes.
+// A part of what is said of any bytes; it holds what is read as `say` does.
 pub fn say_part(wanted: Wanted, bytes: &[u8], from: usize, out: &mut [u8]) -> Result<usize, Refused>
     ensures { (result, out.new) ≡ saying_part (reply_to wanted bytes.now) from out.old }
 {
-    let mut t = read_answers::blank_listing();
-    let coded = code_lent(wanted, bytes, &mut t)?;
-    say_piece(coded, &t, from, out)
+    let plan = plans::plan_of(wanted);
+    let mut read = read_answers::blank_listing();
+    read_wanted(plan, bytes, &mut read)?;
+    let t = read;
+    let coded = code_read(plan, t)?;
+    say_piece(coded, t, from, out)
 }

@@ -51,6 +51,11 @@ pub record Walked (s : List ℕ) (d : Draft) (w : Result Drafted Refused) : Type
   pub count : length (names_in s d.names) ≡ d.names.count
   pub few : d.names.count ≤ most_states
 
+-- the draft that was lent, unless a line is refused
+abbrev pub held : Verdict → Draft → Result Draft Refused
+held (Ok _) d = Ok d
+held (Err why) d = Err why
+
 -- or has come to the same refusal
 abbrev pub Walks : List ℕ → Result Draft Refused → Result Drafted Refused → Type 0
 Walks s (Ok d) w = Walked s d w

@@ -10,7 +10,7 @@ ghost use Rattle.rules.specs.Text.{lines_of};
 ghost use Rattle.rules.specs.Kiss.{with_line, no_draft, kiss_made, kiss_reading};
 ghost use Rattle.read_kiss_rows.specs.Drafts.{more_of};
 ghost use Rattle.read_kiss.specs.Says.{Places, moved_by, moved_row, no_draft_yet, reset_to};
-ghost use Rattle.read_kiss.specs.Walks.{walked, Walks, NamedBy};
+ghost use Rattle.read_kiss.specs.Walks.{walked, held, Walks, NamedBy};
 
 use read_kiss_lines::row::{KissRow, StatePieces};
 use read_kiss_rows::Draft;
@@ -89,11 +89,12 @@ fn row_added(s: &[u8], at: usize, k: usize, row: KissRow, d: Draft) -> Option<Dr
     read_kiss_rows::with_row(s, k, whole, h, d)
 }
 
-// The lines from the top, until one of them decides: what they have made, or the refusal of one of them.
-fn read_lines(s: &[u8]) -> Result<Draft, Refused>
-    ensures { Walks s.now result (walked 1 no_draft (lines_of s.now)) }
+// The lines from the top, until one of them decides: what they have made, or the refusal of one of them. The draft is lent, with nothing in it yet, so that it lies
+// where the caller's does and takes no stack of its own; it is left as it stands then, refused or not.
+fn read_lines(s: &[u8], d: &mut Draft) -> Result<(), Refused>
+    requires { d.now ≡ no_draft_yet }
+    ensures { Walks s.now (held result d.new) (walked 1 no_draft (lines_of s.now)) }
 {
-    let mut d = no_draft();
     let mut k: usize = 1;
     let mut at: usize = 0;
     let mut end = read_pieces::cut(s, 0, b'\n');
@@ -105,17 +106,14 @@ fn read_lines(s: &[u8]) -> Result<Draft, Refused>
         };
         let next = end + 1;
         match step {
-            Said::End => {
-                ending::after_end(k, &s[next..])?;
-                return Ok(d);
-            }
+            Said::End => return ending::after_end(k, &s[next..]),
             Said::Heads(h) => d.heads = h,
-            Said::Reset(p) => d = with_reset(at, p, d),
+            Said::Reset(p) => *d = with_reset(at, p, *d),
             Said::Row(row) => {
-                let Some(more) = row_added(s, at, k, row, d) else {
+                let Some(more) = row_added(s, at, k, row, *d) else {
                     return Err(Refusal::Limit.at(k));
                 };
-                d = more;
+                *d = more;
             }
         }
         at = next;
@@ -141,8 +139,10 @@ pub fn read_kiss(bytes: &[u8]) -> Result<Listing, Refused>
     if rules::MOST_BYTES < bytes.len() {
         return Err(Refusal::Limit.at(0));
     }
-    let d = read_lines(bytes)?;
-    made_of(d)
+    let mut d = no_draft();
+    read_lines(bytes, &mut d)?;
+    let read = d;
+    made_of(read)
 }
 
 // The names of the states, as places in the bytes; or the refusal of the whole text, and its line.
@@ -152,8 +152,10 @@ pub fn read_named(bytes: &[u8]) -> Result<Names, Refused>
     if rules::MOST_BYTES < bytes.len() {
         return Err(Refused::from(Refusal::Limit));
     }
-    let d = read_lines(bytes)?;
-    made_of(d)?;
-    let names = d.names;
+    let mut d = no_draft();
+    read_lines(bytes, &mut d)?;
+    let read = d;
+    made_of(read)?;
+    let names = read.names;
     Ok(names)
 }

@@ -13,5 +13,5 @@ pub returns : goal.returns
 returns c =
     let a = c.args in
     ap (λ (s : Lent). s.0.full) c.add_lines-measured.ensures
-    ∙ ap (λ (p : Part). (added_all (text_lines a.coded.text a.t.now a.coded.encoding) (p, [])).0.full) c.begin.ensures
-    ∙ measured (text_lines a.coded.text a.t.now a.coded.encoding) (text-pieces a.coded.text a.t.now a.coded.encoding) a.len
+    ∙ ap (λ (p : Part). (added_all (text_lines a.coded.text a.t a.coded.encoding) (p, [])).0.full) c.begin.ensures
+    ∙ measured (text_lines a.coded.text a.t a.coded.encoding) (text-pieces a.coded.text a.t a.coded.encoding) a.len

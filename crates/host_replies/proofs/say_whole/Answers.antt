@@ -13,11 +13,11 @@ pub returns-then-is_longer : goal.returns-then-is_longer
 returns-then-is_longer c =
     let a = c.args in
     ap (λ (why : Refused). (Err why, a.out.now)) c.at.ensures
-    ∙ no-space (text_lines a.coded.text a.t.now a.coded.encoding) (text-pieces a.coded.text a.t.now a.coded.encoding) refl a.out.now (sym c.is_longer.ensures ∙ c.if-is_longer.true)
+    ∙ no-space (text_lines a.coded.text a.t a.coded.encoding) (text-pieces a.coded.text a.t a.coded.encoding) refl a.out.now (sym c.is_longer.ensures ∙ c.if-is_longer.true)
 
 pub returns : goal.returns
 returns c =
     let a = c.args in
-    let lines = text_lines a.coded.text a.t.now a.coded.encoding in
-    whole-said lines (text-pieces a.coded.text a.t.now a.coded.encoding) refl a.out.now (sym c.is_longer.ensures ∙ c.if-is_longer.false) _
+    let lines = text_lines a.coded.text a.t a.coded.encoding in
+    whole-said lines (text-pieces a.coded.text a.t a.coded.encoding) refl a.out.now (sym c.is_longer.ensures ∙ c.if-is_longer.false) _
     (c.add_lines-written.ensures ∙ ap (λ (p : Part). added_all lines (p, a.out.now)) c.begin.ensures)

@@ -17,15 +17,14 @@ use Rattle.read_kiss_rows.specs.declared.Draft.{Draft}
 use Rattle.read_kiss_rows.proofs.Meant.{Room, RoomIn, more-means}
 use Rattle.read_kiss.specs.declared.says.Said.{Said}
 use Rattle.read_kiss.specs.Says.{step_of, moved_row, reset_to}
-use Rattle.read_kiss.specs.Walks.{Walked, ended_with, walked}
-use Rattle.rules.specs.Refusals.{refused}
+use Rattle.read_kiss.specs.Walks.{Walked, Walks, held, ended_with, walked}
+use Rattle.rules.specs.Refusals.{Verdict, refused}
 use Rattle.read_kiss_rows.proofs.NamesMeant.{names-count}
 use Rattle.read_kiss.proofs.Endings.{end_is}
 use Rattle.read_kiss.proofs.Saying.{says-within, says-counts}
 use Rattle.read_kiss.proofs.Steps.{behind, read-line, read-last, none_yet, none-room, heads_done, reset-done, reset-room, row_done, row_keeps, more-some, more-none, Keeps}
 use native.Mathlib.Omega.{arith}
 use Rattle.read_kiss.proofs.read_lines.Goals.{After-line_said-said, in-Heads, in-Reset, in-Row+in-Some}
-use Rattle.std.proofs.lemmas.Result.{err_from_is_err_and}
 use Rattle.rules.specs.declared.Refused.{Refused}
 use Rattle.read_kiss.proofs.read_lines.Goals as goal
 
@@ -41,6 +40,11 @@ all_lines c e =
 -- so far it has come
 walks : (s : List ℕ) (d : Draft) → Room d → {w : Result Drafted Refused} → Ok (draft_in s d) ≡ w → Walked s d w
 walks s d r e = record { same = e; count = names-count s d.names r.names; few = r.names.few }
+
+-- and is at its end, unless that is refused
+at-end : (s : List ℕ) (d : Draft) → Room d → (v : Verdict) {w : Result Drafted Refused} → ended_with (draft_in s d) v ≡ w → Walks s (held v d) w
+at-end s d r (Ok _) e = walks s d r e
+at-end s d r (Err why) e = e
 
 -- the places that a line names fit
 places-fit : (c : After-line_said-said) (p : Piece) → Inside (length (part c.args.s.now c.loop-end.at c.loop-end.end)) p
@@ -98,7 +102,7 @@ row_next c row u e q =
 pub loop-end-init : goal.loop-end-init
 loop-end-init c =
     let s = c.args.s.now in
-    let b = c.no_draft-d.ensures in (
+    let b = c.requires in (
       cut_of _ _ 0 (omega arith) c.cut-end.ensures,
       omega arith,
       ap (λ (d : Drafted). walked 1 d (lines_of s)) (none_yet s b),
@@ -113,23 +117,15 @@ returns-in_default c =
     let why : c.unwrap_or.result ≡ c.in_default.field-0 = c.unwrap_or.ensures ∙ rw (c.err.ensures.value, c.in_default.is) in
     ap Err c.at.ensures ∙ ap (λ (r : Refusal). refused r l.k) why ∙ all_lines (goal.at.returns-in_default c).After-line_said-said c.in_default.is
 
-pub returns-in_err-after_end-in-End : goal.returns-in_err-after_end-in-End
-returns-in_err-after_end-in-End c =
-    let l = c.loop-end in
-    let s = c.args.s.now in
-    let p = err_from_is_err_and c.from_residual.result c.from_residual.ensures.1 in
-    rw (p.1, p.2)
-    (ap (ended_with (draft_in s l.d)) (c.in_err-after_end-in-End.ensures ∙ end_is l.k s (l.end + 1)) ∙ all_lines (goal.at.returns-in_err-after_end-in-End c).After-line_said-said (c.in-Ok.is ∙ ap Ok c.in-End.is))
-
 pub returns-in-End : goal.returns-in-End
 returns-in-End c =
     let l = c.loop-end in
     let s = c.args.s.now in
-    walks s l.d l.invariant.3
-    (ap (ended_with (draft_in s l.d)) (c.in_ok-after_end-in-End.ensures ∙ end_is l.k s (l.end + 1)) ∙ all_lines (goal.at.returns-in-End c).After-line_said-said (c.in-Ok.is ∙ ap Ok c.in-End.is))
+    at-end s l.d l.invariant.3 _
+    (ap (ended_with (draft_in s l.d)) (c.after_end.ensures ∙ end_is l.k s (l.end + 1)) ∙ all_lines (goal.at.returns-in-End c).After-line_said-said (c.in-Ok.is ∙ ap Ok c.in-End.is))
 
-pub with_reset-d-requires : goal.with_reset-d-requires
-with_reset-d-requires c = places-fit (goal.at.with_reset-d-requires c).After-line_said-said _ (says-within _ _ _ _ (sym (c.in-Ok.is ∙ ap Ok c.in-Reset.is) ∙ c.line_said-said.ensures))
+pub with_reset-requires : goal.with_reset-requires
+with_reset-requires c = places-fit (goal.at.with_reset-requires c).After-line_said-said _ (says-within _ _ _ _ (sym (c.in-Ok.is ∙ ap Ok c.in-Reset.is) ∙ c.line_said-said.ensures))
 
 pub row_added-requires : goal.row_added-requires
 row_added-requires c =
@@ -155,7 +151,7 @@ loop-end-preserved c =
     let d = (goal.at.loop-end-preserved c).After-line_said-said in
     let next : Next d c.match-step.d = elim c.match-step.branch [
       | in-Heads w ↦ subst (Next d) (sym w.d-is) (heads-next d _ (c.in-Ok.is ∙ ap Ok w.in-Heads.is))
-      | in-Reset w ↦ subst (Next d) (sym w.d-is) (subst (Next d) (sym w.with_reset-d.ensures) (reset-next d _ (c.in-Ok.is ∙ ap Ok w.in-Reset.is)))
+      | in-Reset w ↦ subst (Next d) (sym w.d-is) (subst (Next d) (sym w.with_reset.ensures) (reset-next d _ (c.in-Ok.is ∙ ap Ok w.in-Reset.is)))
       | in-Row+in-Some w ↦ subst (Next d) (sym w.d-is) (row_next d _ _ (c.in-Ok.is ∙ ap Ok w.in-Row.is) (sym w.in-Some.is ∙ w.row_added.ensures))
     ]
     in
