@@ -24,9 +24,14 @@ pub fn print(ready: Result<Ready, Refused>, from: usize, out: &mut [u8]) -> usiz
     ensures { ((result, out.new) ≡ printing (reply_of ready) from out.old) × (result ≤ length out.new) }
 {
     let begun = write_parts::begin(from);
-    let written = match ready {
-        Err(why) => write_refusal::add_refusal(out, begun, why.refusal, why.line),
-        Ok(_) => host_replies::add_text(ready, begun, out),
-    };
-    written.given
+    match ready {
+        Err(why) => {
+            let told = write_refusal::add_refusal(out, begun, why.refusal, why.line);
+            told.given
+        }
+        Ok(_) => {
+            let written = host_replies::add_text(ready, begun, out);
+            written.given
+        }
+    }
 }

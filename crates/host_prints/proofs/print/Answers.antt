@@ -10,9 +10,9 @@ use Rattle.host_prints.proofs.print.Goals as goal
 pub returns-in-Err : goal.returns-in-Err
 returns-in-Err c =
     let a = c.args in
-    let began = c.add_refusal-written.ensures ∙ ap (λ (p : Part). added (printed (refuses c.in-Err.why.refusal c.in-Err.why.line)) (p, a.out.now)) c.begin-begun.ensures in
-    let said = refused-printed c.in-Err.is a.from a.out.now (c.add_refusal-written.result, c.add_refusal-written.new.out) began in
-    (said, printed-few (reply_of a.ready) a.from a.out.now _ _ said c.add_refusal-written.auto.out)
+    let began = c.add_refusal-told.ensures ∙ ap (λ (p : Part). added (printed (refuses c.in-Err.why.refusal c.in-Err.why.line)) (p, a.out.now)) c.begin-begun.ensures in
+    let said = refused-printed c.in-Err.is a.from a.out.now (c.add_refusal-told.result, c.add_refusal-told.new.out) began in
+    (said, printed-few (reply_of a.ready) a.from a.out.now _ _ said c.add_refusal-told.auto.out)
 
 pub returns-in-Ok : goal.returns-in-Ok
 returns-in-Ok c =
