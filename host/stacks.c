@@ -1,4 +1,4 @@
-/* How much stack each entry takes, by painting, on machines of every family, good and damaged, with every buffer that makes it go another way; fails where
+/* How much stack each entry takes, by painting, on machines of every family, good and damaged, with a buffer of each sort that makes it go another way; fails where
    one takes more than it is allowed. */
 #include "generate.h"
 #include "generate_check.h"

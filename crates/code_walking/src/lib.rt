@@ -1,4 +1,5 @@
-// The requirements of some families, one after the other in their order, as an iterator that draws up each as it comes to it.
+// The requirements of some families one after the other, in their order: as an iterator that draws up each as it comes to it, and as a place in the walk, what
+// stands there, and the place behind it.
 #![tactic(auto)]
 
 ghost use Rattle.std.specs.Prelude.{◌≡◌, not, ◌&&◌, ◌+◌, ◌≤◌, ltb, eqb, length, ◌∷◌};

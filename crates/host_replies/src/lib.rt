@@ -177,7 +177,7 @@ fn say_piece(coded: Coded, t: Listing, from: usize, out: &mut [u8]) -> Result<us
 
 // What is said of any bytes, in a lent buffer: how many bytes the text has, or the refusal and its line. Reading and coding have frames of their own, which are left
 // before the next step; what measures and writes has none, for it would have a copy there of the listing that it hands on. What is read is held but once: it does
-// not change any more once `t` has it, so that no call makes a copy of it.
+// not change any more once `t` has it, so that no call from here makes a copy of it.
 pub fn say(wanted: Wanted, bytes: &[u8], out: &mut [u8]) -> Result<usize, Refused>
     ensures { (result, out.new) ≡ saying (reply_to wanted bytes.now) out.old }
 {

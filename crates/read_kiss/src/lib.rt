@@ -89,8 +89,8 @@ fn row_added(s: &[u8], at: usize, k: usize, row: KissRow, d: Draft) -> Option<Dr
     read_kiss_rows::with_row(s, k, whole, h, d)
 }
 
-// The lines from the top, until one of them decides: what they have made, or the refusal of one of them. The draft is lent, with nothing in it yet, so that it lies
-// where the caller's does and takes no stack of its own; it is left as it stands then, refused or not.
+// The lines from the top, until one of them decides: what they make goes into the draft, and the answer is whether one of them is refused, and why. The draft is
+// lent, with nothing in it yet: in a `Result` it would be held twice, in the answer and where it is taken out.
 fn read_lines(s: &[u8], d: &mut Draft) -> Result<(), Refused>
     requires { d.now ≡ no_draft_yet }
     ensures { Walks s.now (held result d.new) (walked 1 no_draft (lines_of s.now)) }

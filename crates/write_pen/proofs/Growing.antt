@@ -6,14 +6,19 @@ use native.Mathlib.Nat.{add-zero, zero-add}
 use native.Mathlib.Numerals.{add-one}
 use native.Mathlib.Omega.{arith}
 use lib.ListN.{length, take, get_or}
+use lib.Seq.{take-suc}
 use Rattle.std.proofs.lemmas.List.{map_more}
 use Rattle.sets.specs.Sets.{has, states_from}
 use Rattle.rules.specs.Text.{nought}
 use Rattle.rules.specs.Report.{joined_lines}
 use Rattle.write_pen.specs.Pen.{digits_text}
 
--- ---- elements of a list, a byte for each
+-- ---- elements of a list
 
+pub take-one {ℓ} : {A : Type ℓ} (l : List A) (i : ℕ) (d : A) → i < length l → take (i + 1) l ≡ take i l ++ (get_or l i d ∷ [])
+take-one l i d h = rw add-one (take-suc l i d h)
+
+-- a byte for each
 pub bytes-of-one : {A : Type 0} (f : A → ℕ) (l : List A) (i : ℕ) (d : A) {b : ℕ} → i < length l → b ≡ f (get_or l i d) → map f (take (i + 1) l) ≡ map f (take i l) ++ (b ∷ [])
 bytes-of-one f l i d h e = map_more f l i d h ∙ rw (sym e)
 

@@ -1,15 +1,15 @@
 -- Laws of writing: texts written one behind the other, and what a buffer holds that had room for the whole text.
 use mathlib.Core.Path.{◌≡◌, refl, sym, ap, ap₂, ◌∙◌, subst}
 use mathlib.Core.Bool.{Bool, true, false}
-use mathlib.Core.List.{List, [], ◌∷◌, ◌++◌, append-nil, append_assoc}
-use Prim.Native.Nat.{ℕ, suc, ◌+◌, ◌-◌, ◌≤◌, ◌<◌, min}
+use mathlib.Core.List.{List, [], ◌∷◌, ◌++◌, append-nil}
+use Prim.Native.Nat.{ℕ, suc, ◌+◌, ◌≤◌, ◌<◌, min}
 use native.Mathlib.Nat.{add-zero}
 use native.Mathlib.Numerals.{add-one}
 use native.Mathlib.Omega.{arith}
 use lib.Dec.{leb}
 use borrow.Author.Tests.{leb-true, leb-false}
-use lib.ListN.{length, set, take, drop, length-set, length-take, length-append, take-append-drop}
-use lib.Seq.{set_out, take-suc-set, drop-set-lt, append_snoc, take_at, take_all, drop-drop}
+use lib.ListN.{length, set, take, drop, length-set, length-append, take-append-drop}
+use lib.Seq.{set_out, take-suc-set, drop-set-lt, append_snoc, take_at}
 use Rattle.write_pen.specs.Pen.{last_place, put, Wrote}
 
 -- ---- put
@@ -42,29 +42,6 @@ put-fits d at (x ∷ xs) h =
     let k : at < at + 1 + length xs = omega arith in
     put-fits (set d at x) (at + 1) xs (rw length-set (omega arith))
     ∙ rw (e, drop-set-lt (at + 1 + length xs) d at x k, add-one, take-suc-set d at x g, append_snoc)
-
--- what has no room is lost
-pub put-room : (d : List ℕ) (at : ℕ) (xs : List ℕ) {n : ℕ} → at ≤ length d → n ≡ min (length xs) (length d - at) → put d at (take n xs) ≡ put d at xs
-put-room d at xs {n} h e = go (leb (length xs) (length d - at)) refl
-  where
-    go : (t : Bool) → leb (length xs) (length d - at) ≡ t → put d at (take n xs) ≡ put d at xs
-    go true f = ap (put d at) (take_all n xs (omega (arith, leb-true (length xs) (length d - at) f)))
-    go false f =
-        let few = leb-false (length xs) (length d - at) f in
-        let long : length (take n xs) ≡ n = omega (arith, length-take n xs) in
-        let lost : length (put d at (take n xs)) ≤ at + length (take n xs) = omega (arith, put-length d at (take n xs)) in
-        sym (put-lost (put d at (take n xs)) (at + length (take n xs)) (drop n xs) lost)
-        ∙ put-append d at (take n xs) (drop n xs)
-        ∙ ap (put d at) (take-append-drop n xs)
-
--- so much of it in one piece
-pub put-piece : (d : List ℕ) (at : ℕ) (xs : List ℕ) {n k m : ℕ} {ys : List ℕ} → at ≤ length d → n ≡ min (length xs) (length d - at) → k ≡ n → m ≡ n
-    → ys ≡ take m xs → take at d ++ (ys ++ drop k (drop at d)) ≡ put d at xs
-put-piece d at xs {n} {k} {m} {ys} h e p q f =
-    let long : length (take n xs) ≡ n = omega (arith, length-take n xs) in
-    let z : at + length (take n xs) ≡ at + n = omega arith in
-    rw (f, p, q, drop-drop, ← append_assoc)
-    (sym (ap (λ (i : ℕ). take at d ++ take n xs ++ drop i d) z) ∙ sym (put-fits d at (take n xs) (omega arith)) ∙ put-room d at xs h e)
 
 -- a place past the last, and the last, both lie behind the buffer's end
 put-far : (d : List ℕ) (at : ℕ) (xs : List ℕ) → length d ≤ last_place → put d (min at last_place) xs ≡ put d at xs

@@ -20,11 +20,12 @@ pub fn put_byte(out: &mut [u8], at: usize, b: u8) -> usize
 pub fn put_bytes(out: &mut [u8], at: usize, s: &[u8]) -> usize
     ensures { Wrote out.old at s.now result out.new }
 {
-    if at <= out.len() {
-        let n = s.len().min(out.len() - at);
-        out[at..at + n].copy_from_slice(&s[..n]);
+    // A byte at a time: most texts are a mark of three bytes, for which a copy in one piece would be a call.
+    let mut to = at;
+    for &b in s {
+        to = put_byte(out, to, b);
     }
-    at.saturating_add(s.len())
+    to
 }
 
 // A number in decimal: the digits before the last, and the last.

@@ -8,9 +8,13 @@ use lib.ListN.{length}
 use Rattle.rules.specs.Requirements.{met_by_code}
 use Rattle.rules.specs.Code.{unmet_from}
 use Rattle.rules.specs.declared.Requirement.{Requirement}
-use Rattle.rules.proofs.Unmet.{listed-met, listed-unmet}
+use Rattle.rules.proofs.Unmet.{listed-met, listed-unmet, unmet-length}
 
 -- whichever number the first has
+number-any : (k j n : ℕ) (bits : List ℕ) (rs : List Requirement) → length (unmet_from k n bits rs) ≡ length (unmet_from j n bits rs)
+number-any k j n bits rs = unmet-length k n bits rs ∙ sym (unmet-length j n bits rs)
+
+-- as std filters a list
 pub filtered : (k : ℕ) (bits : List ℕ) (rs : List Requirement) → length (filter (λ r. not (met_by_code 64 bits r)) rs) ≡ length (unmet_from k 64 bits rs)
 unfolding unmet_from
 filtered k bits [] = refl

@@ -1,19 +1,12 @@
--- `write_pen::put_bytes` meets its contract: what has room is stored in one piece, and the rest is lost.
-use mathlib.Core.Path.{◌∙◌, sym}
+-- `write_pen::put_bytes` meets its contract. The loop's invariant: what is written is the bytes passed.
+use mathlib.Core.Path.{sym}
 use native.Mathlib.Omega.{arith}
-use Rattle.write_pen.proofs.Laws.{put-piece, put-lost}
-use Rattle.write_pen.proofs.put_bytes.Goals.{then-at-out, else-at-out}
+use Rattle.write_pen.proofs.Laws.{wrote_none, wrote_then, wrote_as}
+use Rattle.write_pen.proofs.Growing.{take-one}
 use Rattle.write_pen.proofs.put_bytes.Goals as goal
 
-pub returns : goal.returns
-returns c =
-    let a = c.args in
-    let e = c.saturating_add.ensures in
-    elim c.if-at-out.branch [
-      | then-at-out w ↦ record {
-        ends = e;
-        holds = w.out-is ∙ put-piece a.out.now a.at a.s.now (omega arith) w.min-n.ensures (omega arith) (omega arith) w.copy_from_slice.ensures.after;
-        within = omega arith;
-      }
-      | else-at-out w ↦ record { ends = e; holds = w.out-is ∙ sym (put-lost a.out.now a.at a.s.now (omega arith)); within = omega arith }
-    ]
+pub loop-b-init : goal.loop-b-init
+loop-b-init c = wrote_none _ _ (omega arith) (omega arith)
+
+pub loop-b-preserved : goal.loop-b-preserved
+loop-b-preserved c = wrote_as (wrote_then c.loop-b.invariant c.put_byte-to.ensures) (sym (take-one _ c.loop-b.b-index 0 (omega arith)))
